@@ -1,0 +1,4 @@
+pub mod EscapeLemmas
+pub mod FileLemmas
+pub mod HexLemmas
+pub mod TokenLemmas

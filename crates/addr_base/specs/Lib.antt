@@ -1,0 +1,9 @@
+pub mod Escapes
+pub mod Faults
+pub mod Files
+pub mod Ids
+pub mod Images
+pub mod LooseTokens
+pub mod Memory
+pub mod Streams
+pub mod Tokens

@@ -1,0 +1,74 @@
+// What no clause says: values from outside, and that each call can succeed.
+use crate::{
+    Depot, DepotErr, FolderDepot, Guid, MemConn, MemDepot, OutSink, Sink, digest, token,
+    untoken_bytes,
+};
+use std::fs;
+use std::test::Fail;
+
+#[test]
+fn writes_and_reads_tokens(rt: HostRuntime) -> Result<(), Fail> {
+    for (text, want) in [
+        ("", "%"),
+        ("a b", "a%20b"),
+        ("100%,", "100%25%2C"),
+        ("é", "%C3%A9"),
+    ] {
+        let made = token(rt.alloc(), text)?;
+        assert_eq!(rt; made.as_str(), want);
+        match untoken_bytes(rt.alloc(), want.as_bytes())? {
+            Some(read) => assert_eq!(rt; read.as_str(), text),
+            None => assert!(rt; false, "{want}"),
+        }
+    }
+    for bytes in ["", "%-", "%41", "%c3%a9", "%FF", "%2", "a b", "a,b", "%20%"] {
+        assert!(rt;
+            untoken_bytes(rt.alloc(), bytes.as_bytes())?.is_none(),
+            "{bytes}"
+        );
+    }
+    Ok(())
+}
+
+#[test]
+fn cuts_and_prints_digests(rt: HostRuntime) -> Result<(), Fail> {
+    let text = format!(in rt.alloc(); "{}", digest(b"abc"))?;
+    assert_eq!(rt; text.as_str(), "ba7816bf8f01cfea414140de5dae2223");
+    let guid = Guid::parse(text.as_str());
+    assert_eq!(rt; guid, Some(Guid(digest(b"abc").0)));
+    assert_eq!(rt; Guid::parse("BA7816BF8F01CFEA414140DE5DAE2223"), None);
+    Ok(())
+}
+
+#[test]
+fn puts_and_reads_in_memory(rt: HostRuntime) {
+    let mut depot = MemDepot::new(Vec::new(rt.alloc()), Vec::new(rt.alloc()));
+    assert_eq!(rt; depot.put(rt.alloc(), "b/c", b"2"), Ok(()));
+    assert!(rt; matches!(depot.read(rt.alloc(), "b/c"), Ok(Some(_))));
+    let mut conn = MemConn::new(rt.alloc(), Vec::new(rt.alloc()), Vec::new(rt.alloc()));
+    assert_eq!(rt; conn.put(b"12"), Ok(()));
+}
+
+#[test]
+fn replaces_files_below_the_working_folder(rt: HostRuntime) {
+    let mut depot = FolderDepot::new(&rt);
+    assert!(rt; matches!(depot.read(rt.alloc(), "base_test/a/b"), Ok(None)));
+    for bytes in ["1", "22"] {
+        assert_eq!(rt;
+            depot.put(rt.alloc(), "base_test/a/b", bytes.as_bytes()),
+            Ok(())
+        );
+        match depot.read(rt.alloc(), "base_test/a/b") {
+            Ok(Some(found)) => assert_eq!(rt; found.as_slice(), bytes.as_bytes()),
+            _ => assert!(rt; false, "{bytes}"),
+        }
+    }
+    assert!(rt; matches!(depot.read(rt.alloc(), "base_test/a"), Err(DepotErr::Fault)));
+    assert!(rt; fs::remove_dir_all(&rt, "base_test").is_ok());
+}
+
+#[test]
+fn writes_to_standard_output(rt: HostRuntime) {
+    let mut sink = OutSink::new(&rt);
+    assert_eq!(rt; sink.put(b"written by a test\n"), Ok(()));
+}

@@ -1,0 +1,4 @@
+pub mod WordLemmas
+pub mod OnceLemmas
+pub mod OutcomeLemmas
+pub mod PlayLemmas

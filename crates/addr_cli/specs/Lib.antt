@@ -1,0 +1,4 @@
+pub mod Outcome
+pub mod Refusals
+pub mod SimText
+pub mod Words

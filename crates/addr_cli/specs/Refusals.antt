@@ -1,0 +1,49 @@
+-- Why a command is refused: its exit status, and the one line that it prints.
+use Rattle.std.specs.Prelude.{ℕ, List, [], ◌∷◌, ◌++◌, codes, decimal, Result, Ok, Err}
+use Rattle.addr_base.specs.declared.depot.DepotErr.{DepotErr}
+use Rattle.addr_base.specs.declared.depot.DepotErr.TheVariants.{Fault, NoMemory as DepotNoMemory}
+use Rattle.addr_locate.specs.declared.error.RowsErr.{RowsErr}
+use Rattle.addr_locate.specs.declared.error.RowsErr.TheVariants.{Line as RowsLine, NoMemory as RowsNoMemory}
+use Rattle.addr_script.specs.declared.error.ScriptErr.{ScriptErr}
+use Rattle.addr_script.specs.declared.error.ScriptErr.TheVariants.{Line as ScriptLine, NoMemory as ScriptNoMemory}
+use Rattle.addr_cli.specs.declared.refusal.Refusal.{Refusal}
+use Rattle.addr_cli.specs.declared.refusal.Refusal.TheVariants.{NoMemory, Usage, Depot, NoFile, BadRows, BadScript}
+
+abbrev pub refusal_status : Refusal → ℕ
+refusal_status NoMemory = 1
+refusal_status Usage = 2
+refusal_status Depot = 3
+refusal_status (NoFile token) = 5
+refusal_status (BadRows line) = 7
+refusal_status (BadScript line) = 9
+
+-- a file is named by its token
+abbrev pub refusal_text : Refusal → List ℕ
+refusal_text NoMemory = codes "error 1 memory"
+refusal_text Usage = codes "error 2 usage"
+refusal_text Depot = codes "error 3 depot"
+refusal_text (NoFile token) = codes "error 5 " ++ token
+refusal_text (BadRows line) = codes "error 7 line " ++ decimal line
+refusal_text (BadScript line) = codes "error 9 " ++ decimal line
+
+-- the status of a command that ended so, and all that it prints: its text, or the line of its refusal
+abbrev pub ended_status : Result (List ℕ) Refusal → ℕ
+ended_status (Ok text) = 0
+ended_status (Err refusal) = refusal_status refusal
+
+abbrev pub ended_text : Result (List ℕ) Refusal → List ℕ
+ended_text (Ok text) = text
+ended_text (Err refusal) = refusal_text refusal ++ 10 ∷ []
+
+-- the refusals that the errors of the layers below become
+abbrev pub from_depot : DepotErr → Refusal
+from_depot Fault = Depot
+from_depot DepotNoMemory = NoMemory
+
+abbrev pub from_rows : RowsErr → Refusal
+from_rows (RowsLine line) = BadRows line
+from_rows RowsNoMemory = NoMemory
+
+abbrev pub from_script : ScriptErr → Refusal
+from_script (ScriptLine line) = BadScript line
+from_script ScriptNoMemory = NoMemory

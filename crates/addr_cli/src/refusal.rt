@@ -1,0 +1,115 @@
+// Why a command is refused. One enum stands for all commands; each layer's error becomes its variant by `?`.
+ghost use Rattle.std.specs.Prelude.{◌≡◌, IfOk, string_bytes};
+ghost use Rattle.addr_cli.specs.Refusals.{refusal_status, refusal_text};
+
+use crate::status::Status;
+use addr_base::{DepotErr, NoMemory, Text};
+use addr_locate::RowsErr;
+use addr_script::ScriptErr;
+use std::alloc::{AllocError, Global};
+use std::fmt;
+
+/// Why a command is refused, in the order of the exit statuses.
+#[derive(Drop)]
+pub enum Refusal {
+    NoMemory,
+    /// The words are no command's.
+    Usage,
+    /// The depot failed.
+    Depot,
+    /// No file has the name with this token.
+    NoFile(Text),
+    /// The first bad line of the rows.
+    BadRows(u32),
+    /// The first bad line of the script.
+    BadScript(u32),
+}
+
+impl Refusal {
+    pub fn status(&self) -> Status
+        ensures { result.0 ≡ refusal_status self.now }
+    {
+        match self {
+            Refusal::NoMemory => Status(1),
+            Refusal::Usage => Status(2),
+            Refusal::Depot => Status(3),
+            Refusal::NoFile(_) => Status(5),
+            Refusal::BadRows(_) => Status(7),
+            Refusal::BadScript(_) => Status(9),
+        }
+    }
+}
+
+impl fmt::Display for Refusal {
+    ghost use Rattle.std.specs.Prelude.{Some};
+    ghost use Rattle.addr_cli.specs.Refusals.{refusal_text};
+
+    ghost output = { λ r. Some (refusal_text r) };
+
+    fn fmt<W: fmt::Write>(&self, f: &mut fmt::Formatter<W>) -> fmt::Result {
+        match self {
+            Refusal::NoMemory => f.write_str("error 1 memory"),
+            Refusal::Usage => f.write_str("error 2 usage"),
+            Refusal::Depot => f.write_str("error 3 depot"),
+            Refusal::NoFile(token) => {
+                let name = token.as_str();
+                write!(f, "error 5 {name}")
+            }
+            Refusal::BadRows(line) => write!(f, "error 7 line {line}"),
+            Refusal::BadScript(line) => write!(f, "error 9 {line}"),
+        }
+    }
+}
+
+impl From<NoMemory> for Refusal {
+    ghost use Rattle.std.specs.Prelude.{◌≡◌};
+    ghost use Rattle.addr_cli.specs.declared.refusal.Refusal.TheVariants as refusals;
+
+    ghost from_gives = { λ _ r. r ≡ refusals.NoMemory };
+
+    fn from(_: NoMemory) -> Self {
+        Refusal::NoMemory
+    }
+}
+
+impl From<DepotErr> for Refusal {
+    ghost use Rattle.std.specs.Prelude.{◌≡◌};
+    ghost use Rattle.addr_cli.specs.Refusals.{from_depot};
+
+    ghost from_gives = { λ e r. r ≡ from_depot e };
+
+    fn from(e: DepotErr) -> Self {
+        match e {
+            DepotErr::Fault => Refusal::Depot,
+            DepotErr::NoMemory => Refusal::NoMemory,
+        }
+    }
+}
+
+impl From<RowsErr> for Refusal {
+    ghost use Rattle.std.specs.Prelude.{◌≡◌};
+    ghost use Rattle.addr_cli.specs.Refusals.{from_rows};
+
+    ghost from_gives = { λ e r. r ≡ from_rows e };
+
+    fn from(e: RowsErr) -> Self {
+        match e {
+            RowsErr::Line(line) => Refusal::BadRows(line),
+            RowsErr::NoMemory => Refusal::NoMemory,
+        }
+    }
+}
+
+impl From<ScriptErr> for Refusal {
+    ghost use Rattle.std.specs.Prelude.{◌≡◌};
+    ghost use Rattle.addr_cli.specs.Refusals.{from_script};
+
+    ghost from_gives = { λ e r. r ≡ from_script e };
+
+    fn from(e: ScriptErr) -> Self {
+        match e {
+            ScriptErr::Line(line) => Refusal::BadScript(line),
+            ScriptErr::NoMemory => Refusal::NoMemory,
+        }
+    }
+}

@@ -1,0 +1,44 @@
+// How a command's end is printed: its text, or the one line of its refusal, by one put.
+ghost use Rattle.std.specs.Prelude.{◌≡◌, ◌++◌, ◌∷◌, [], ◌⊎◌, IfOk, codes, string_bytes};
+ghost use Rattle.addr_cli.specs.Outcome.{Prints};
+ghost use Rattle.addr_cli.specs.Refusals.{ended_status, ended_text, refusal_text};
+
+use crate::refusal::Refusal;
+use crate::status::Status;
+use addr_base::{NoMemory, Sink, Text};
+use std::alloc::Global;
+use std::fmt::Write;
+
+/// What is printed where a refusal's line finds no memory.
+const MEMORY_LINE: &[u8] = b"error 1 memory\n";
+
+/// Prints the text of a command or the line of its refusal; where that line finds no memory, the one that says so.
+pub fn report<K: Sink>(alloc: Global, ended: Result<Text, Refusal>, out: &mut K) -> Status
+    ensures { Prints (ended_status ended) (ended_text ended) result.0 (record { written = K.written out.old; faults = K.faults out.old }) (record { written = K.written out.new; faults = K.faults out.new }) ⊎ Prints 1 (codes "error 1 memory" ++ 10 ∷ []) result.0 (record { written = K.written out.old; faults = K.faults out.old }) (record { written = K.written out.new; faults = K.faults out.new }) }
+{
+    match ended {
+        Ok(text) => print(out, text.as_bytes(), Status::DONE),
+        Err(refusal) => match refusal_line(alloc, &refusal) {
+            Ok(line) => print(out, line.as_bytes(), refusal.status()),
+            Err(NoMemory) => print(out, MEMORY_LINE, Refusal::NoMemory.status()),
+        },
+    }
+}
+
+/// Puts a whole text, whose status it answers unless the sink fails.
+fn print<K: Sink>(out: &mut K, text: &[u8], status: Status) -> Status
+    ensures { Prints status.0 text.now result.0 (record { written = K.written out.old; faults = K.faults out.old }) (record { written = K.written out.new; faults = K.faults out.new }) }
+{
+    match out.put(text) {
+        Ok(()) => status,
+        Err(_) => Status::SINK_FAULT,
+    }
+}
+
+fn refusal_line(alloc: Global, refusal: &Refusal) -> Result<String, NoMemory>
+    ensures { IfOk result (λ line. string_bytes line ≡ refusal_text refusal.now ++ 10 ∷ []) }
+{
+    let mut line = String::new(alloc);
+    writeln!(line, "{refusal}")?;
+    Ok(line)
+}

@@ -1,0 +1,26 @@
+// Worked rows: one bundle A and one bundle B, and three assets, with the replies that their source states. Commands are
+// parted by semicolons, and each stands before its reply; `load KEYS` is short for `load 0 one first %* KEYS`.
+pub const ROWS: &str = "addr-rows 1
+bundle A 100 00000000000000000000000000000000 A local/A
+bundle B 200 00000000000000000000000000000000 B local/B
+asset 00000000000000000000000000000001 Mesh 0 tree,00000000000000000000000000000001,green
+asset 00000000000000000000000000000002 Mesh 1,0 bush,00000000000000000000000000000002,green
+asset 00000000000000000000000000000003 Mesh 0 green,00000000000000000000000000000003
+";
+
+pub const SCRIPTS: [&str; 7] = [
+    // the first path
+    "load tree = op 0; count 0 = count 1 queued; release 0 0 = released; count 0 = count 0 absent",
+    // several rows under one key, and an unknown key that is passed over
+    "load green = op 0; load nope,bush = op 1",
+    // pending and kept
+    "load tree = op 0; take 1 = bundle 0; release 0 0 = released; count 0 = count 0 fetching; load tree = op 1; take 2 = idle; done 2 0 = not-taken; done 1 0 = kept; status 1 = ready",
+    // dropped
+    "load tree = op 0; take 1 = bundle 0; release 0 0 = released; count 0 = count 0 fetching; done 1 0 = dropped; count 0 = count 0 absent",
+    // a failed dependency and its retry
+    "load bush = op 0; take 1 = bundle 1; fail 1 1 missing = failed; status 0 = failed 1 missing; load bush = op 1; take 1 = bundle 0; take 2 = bundle 1; done 1 0 = kept; done 2 1 = kept; status 0 = failed 1 missing; status 1 = ready; count 1 = count 2 resident; release 0 0 = released; release 0 0 = no-handle; status 0 = no-handle",
+    // a limit, and closing
+    "limit 5; load tree = op 0; load tree = journal-full 1 4 2; release 0 0 = released; load tree = journal-full 2 1 4; close = close; close = closed; load tree = closed",
+    // shared by two operations
+    "load tree = op 0; load tree = op 1; take 1 = bundle 0; done 1 0 = kept; release 0 0 = released; count 0 = count 1 resident; release 0 1 = released; count 0 = count 0 absent; take 1 = idle; close = close; take 1 = end",
+];

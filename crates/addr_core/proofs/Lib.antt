@@ -1,0 +1,12 @@
+mod Advance
+mod Counting
+mod Keeping
+mod Legality
+mod Owed
+mod Points
+mod Preparing
+mod Queueing
+mod Ranges
+mod Steps
+mod Walking
+mod Worked

@@ -1,0 +1,11 @@
+pub mod Answers
+pub mod Counts
+pub mod Events
+pub mod Laws
+pub mod Legal
+pub mod Machine
+pub mod Places
+pub mod Prepare
+pub mod Status
+pub mod Walk
+pub mod Worked

@@ -1,0 +1,12 @@
+use Rattle.std.proofs.Common.{Result, ℕ, subst, arith}
+use Rattle.addr_keys.specs.declared.key.Key.{Key}
+use Rattle.addr_keys.specs.declared.error.KeyErr.{KeyErr}
+use Rattle.addr_keys.specs.Faults.{Gives}
+use Rattle.addr_keys.proofs.KeyLemmas.{found_of, is_read}
+use Rattle.addr_keys.proofs.reader.read_key.Goals as goal
+
+pub returns-clause-found : goal.returns-clause-found
+returns-clause-found c = found_of c.args.bytes.now c.args.at c.key_from.result (λ i. omega (arith, c.type_inv.bytes i)) c.key_from.ensures
+
+pub returns-clause-only : goal.returns-clause-only
+returns-clause-only c = λ key end is. subst (λ (x : Result (Key × ℕ) KeyErr). Gives (λ y. y) c.key_from.result x) (is_read c.args.bytes.now c.args.at key end is) c.key_from.ensures

@@ -1,0 +1,16 @@
+use Rattle.std.proofs.Common.{◌≡◌, ◌∙◌, ap, sym, subst, map, is_some}
+use Rattle.addr_locate.specs.Rows.{Rows, rows_of, written}
+use Rattle.addr_locate.proofs.TextLemmas.{key_known}
+use Rattle.addr_locate.proofs.locator.Locator.key_no.Goals as goal
+
+pub returns-in-None-clause-known : goal.returns-in-None-clause-known
+returns-in-None-clause-known c =
+    let numbers = subst (λ (r : Rows). rows_of r.bundles (map (written r) r.assets) ≡ r) c.self.view_is c.self.invariant.numbers in
+    let same = c.as_slice.ensures ∙ ap (λ (r : Rows). r.keys) c.self.view_is in
+    ap is_some (sym c.in-None.is) ∙ key_known c.args.self.now c.args.text.now c.as_slice.result.now c.place_of.result numbers same c.place_of.ensures
+
+pub returns-in-Some-clause-known : goal.returns-in-Some-clause-known
+returns-in-Some-clause-known c =
+    let numbers = subst (λ (r : Rows). rows_of r.bundles (map (written r) r.assets) ≡ r) c.self.view_is c.self.invariant.numbers in
+    let same = c.as_slice.ensures ∙ ap (λ (r : Rows). r.keys) c.self.view_is in
+    ap is_some (sym c.in-Some.is) ∙ key_known c.args.self.now c.args.text.now c.as_slice.result.now c.place_of.result numbers same c.place_of.ensures

@@ -1,0 +1,5 @@
+pub mod Merge
+pub mod PlainFields
+pub mod PlainParts
+pub mod PlainRows
+pub mod Rows

@@ -1,0 +1,108 @@
+// A catalogue's rows in memory, with keys and types found by their texts. Lists are kept plain: a text is searched for.
+ghost use Rattle.std.specs.Prelude.{◌≡◌, ◌<◌, ◌^◌, length, nat_lt, slice_get, IsTrue, IfOk, is_some};
+ghost use Rattle.std.specs.List.{list_all, list_any};
+ghost use Rattle.std.specs.Option.{option_copied};
+ghost use Rattle.addr_locate.specs.Merge.{merged, deps_of};
+ghost use Rattle.addr_locate.specs.Rows.{has_sound_deps, are_bundles, no_repeats, key_of, kind_of, has_key_text, has_kind_text};
+
+use crate::merging::{distinct_deps, merge_rows};
+use crate::rows::{AssetRow, BundleRow, Kind, Merge};
+use crate::texts::{place_of, text_at};
+use addr_base::{BundleNo, Items, KeyNo, NoMemory, RowNo, Text, TypeNo};
+use std::alloc::Global;
+use std::marker::Model;
+
+/// The rows of a catalogue. Keys and types are numbered by first occurrence over the asset rows.
+#[derive(Debug, Drop)]
+pub struct Locator {
+    pub(crate) bundles: Items<BundleRow>,
+    pub(crate) assets: Items<AssetRow>,
+    pub(crate) keys: Items<Text>,
+    pub(crate) kinds: Items<Text>,
+}
+
+impl Model for Locator {
+    ghost use Rattle.addr_locate.specs.Rows.{Rows, AreRows};
+
+    ghost Value = { Rows };
+
+    ghost view = { λ l. record { bundles = l.bundles; assets = l.assets; keys = l.keys; kinds = l.kinds } };
+
+    ghost invariant = { λ l. AreRows (record { bundles = l.bundles; assets = l.assets; keys = l.keys; kinds = l.kinds }) };
+}
+
+impl Locator {
+    /// The bundle rows, in the order of the catalogue.
+    pub fn bundles(&self) -> &[BundleRow]
+        ensures rows { result.now ≡ self.now.bundles }
+        ensures few { length self.now.bundles < 2 ^ 32 }
+    {
+        self.bundles.as_slice()
+    }
+
+    /// The asset rows, in the order of the catalogue.
+    pub fn assets(&self) -> &[AssetRow]
+        ensures rows { result.now ≡ self.now.assets }
+        ensures few { length self.now.assets < 2 ^ 32 }
+        ensures deps { IsTrue (list_all (λ a. has_sound_deps (length self.now.bundles) a.deps) self.now.assets) }
+    {
+        self.assets.as_slice()
+    }
+
+    /// The number of the key with that text. Searches the list of keys.
+    pub fn key_no(&self, text: &str) -> Option<KeyNo>
+        ensures place { result ≡ key_of self.now text.now }
+        ensures known { is_some result ≡ list_any (has_key_text self.now text.now) self.now.assets }
+    {
+        match place_of(self.keys.as_slice(), text) {
+            None => None,
+            Some(place) => Some(KeyNo(place)),
+        }
+    }
+
+    /// The number of the type with that text. Searches the list of types.
+    pub fn type_no(&self, text: &str) -> Option<TypeNo>
+        ensures place { result ≡ kind_of self.now text.now }
+        ensures known { is_some result ≡ list_any (has_kind_text self.now text.now) self.now.assets }
+    {
+        match place_of(self.kinds.as_slice(), text) {
+            None => None,
+            Some(place) => Some(TypeNo(place)),
+        }
+    }
+
+    pub fn key_text(&self, key: KeyNo) -> Option<&str>
+        ensures { option_copied result ≡ slice_get self.now.keys key.0 }
+    {
+        text_at(self.keys.as_slice(), key.0)
+    }
+
+    pub fn type_text(&self, kind: TypeNo) -> Option<&str>
+        ensures { option_copied result ≡ slice_get self.now.kinds kind.0 }
+    {
+        text_at(self.kinds.as_slice(), kind.0)
+    }
+
+    /// The asset rows that the keys lead to, in the order of the catalogue. A key that isn't in the catalogue is `None`.
+    pub fn locate(
+        &self,
+        alloc: Global,
+        keys: &[Option<KeyNo>],
+        mode: Merge,
+        kind: Kind,
+    ) -> Result<Items<RowNo>, NoMemory>
+        ensures rows { IfOk result (λ found. found ≡ merged self.now.assets keys.now mode kind) }
+        ensures within { IfOk result (λ found. IsTrue (list_all (λ r. nat_lt r.0 (length self.now.assets)) found)) }
+    {
+        merge_rows(alloc, self.assets.as_slice(), keys, mode, kind)
+    }
+
+    /// The distinct bundles that the rows need, in order of first occurrence. A number that is no row's has none.
+    pub fn deps(&self, alloc: Global, rows: &[RowNo]) -> Result<Items<BundleNo>, NoMemory>
+        ensures bundles { IfOk result (λ found. found ≡ deps_of self.now.assets rows.now) }
+        ensures within { IfOk result (λ found. IsTrue (are_bundles (length self.now.bundles) found)) }
+        ensures once { IfOk result (λ found. IsTrue (no_repeats found)) }
+    {
+        distinct_deps(alloc, self.assets.as_slice(), rows)
+    }
+}

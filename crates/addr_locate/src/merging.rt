@@ -1,0 +1,196 @@
+// What keys lead to. One walk over the rows a key; the rows of several keys are found by one test on each row.
+ghost use Rattle.std.specs.Prelude.{◌≡◌, ◌==◌, ◌<◌, ◌^◌, ◌++◌, ◌&&◌, not, List, map, length, IfOk, OnOk};
+ghost use Rattle.std.specs.List.{list_any, list_all};
+ghost use Rattle.addr_locate.specs.Merge.{is_kind, has_key, is_match, has_none, rows_where, first_filled, merged, distinct, deps_of_row, deps_of};
+ghost use Rattle.addr_base.specs.declared.ids.BundleNo.{BundleNo};
+
+use crate::rows::{AssetRow, Kind, Merge};
+use addr_base::{BundleNo, Items, KeyNo, NoMemory, RowNo};
+use std::alloc::Global;
+
+fn is_kind(kind: Kind, row: &AssetRow) -> bool
+    ensures { result ≡ is_kind kind row.now }
+{
+    match kind {
+        Kind::Any => true,
+        Kind::Known(asked) => row.kind.0 == asked.0,
+        Kind::Unknown => false,
+    }
+}
+
+fn is_among(key: KeyNo, keys: &[KeyNo]) -> bool
+    ensures { result ≡ list_any (λ k. k.0 == key.0) keys.now }
+{
+    keys.iter().any(|k| k.0 == key.0)
+}
+
+fn has_key(key: Option<KeyNo>, row: &AssetRow) -> bool
+    ensures { result ≡ has_key key row.now }
+{
+    match key {
+        None => false,
+        Some(asked) => is_among(asked, row.keys.as_slice()),
+    }
+}
+
+/// Whether the row has the key and is of the asked kind.
+pub fn is_match(kind: Kind, key: Option<KeyNo>, row: &AssetRow) -> bool
+    ensures { result ≡ is_match kind key row.now }
+{
+    has_key(key, row) && is_kind(kind, row)
+}
+
+/// The rows that have the key and are of the asked kind.
+fn matching(
+    alloc: Global,
+    rows: &[AssetRow],
+    kind: Kind,
+    key: Option<KeyNo>,
+) -> Result<Items<RowNo>, NoMemory>
+    requires { length rows.now < 2 ^ 32 }
+    ensures { IfOk result (λ found. found ≡ rows_where (is_match kind key) rows.now) }
+{
+    let mut found = Items::new(alloc);
+    for (i, row) in rows.iter().enumerate() {
+        if is_match(kind, key, row) {
+            found.push(RowNo(i as u32))?;
+        }
+    }
+    Ok(found)
+}
+
+/// The rows that have some key and are of the asked kind.
+fn matching_some(
+    alloc: Global,
+    rows: &[AssetRow],
+    kind: Kind,
+    keys: &[Option<KeyNo>],
+) -> Result<Items<RowNo>, NoMemory>
+    requires { length rows.now < 2 ^ 32 }
+    ensures { IfOk result (λ found. found ≡ rows_where (λ row. list_any (λ key. is_match kind key row) keys.now) rows.now) }
+{
+    let mut found = Items::new(alloc);
+    for (i, row) in rows.iter().enumerate() {
+        if has_some(kind, keys, row) {
+            found.push(RowNo(i as u32))?;
+        }
+    }
+    Ok(found)
+}
+
+/// The rows that have every key, of some keys, and are of the asked kind.
+fn matching_each(
+    alloc: Global,
+    rows: &[AssetRow],
+    kind: Kind,
+    keys: &[Option<KeyNo>],
+) -> Result<Items<RowNo>, NoMemory>
+    requires { length rows.now < 2 ^ 32 }
+    ensures { IfOk result (λ found. found ≡ rows_where (λ row. not (has_none keys.now) && list_all (λ key. is_match kind key row) keys.now) rows.now) }
+{
+    let mut found = Items::new(alloc);
+    for (i, row) in rows.iter().enumerate() {
+        if has_each(kind, keys, row) {
+            found.push(RowNo(i as u32))?;
+        }
+    }
+    Ok(found)
+}
+
+fn has_some(kind: Kind, keys: &[Option<KeyNo>], row: &AssetRow) -> bool
+    ensures { result ≡ list_any (λ key. is_match kind key row.now) keys.now }
+{
+    keys.iter().any(|key| is_match(kind, *key, row))
+}
+
+fn has_each(kind: Kind, keys: &[Option<KeyNo>], row: &AssetRow) -> bool
+    ensures { result ≡ (not (has_none keys.now) && list_all (λ key. is_match kind key row.now) keys.now) }
+{
+    !keys.is_empty() && matches_all(kind, keys, row)
+}
+
+fn matches_all(kind: Kind, keys: &[Option<KeyNo>], row: &AssetRow) -> bool
+    ensures { result ≡ list_all (λ key. is_match kind key row.now) keys.now }
+{
+    keys.iter().all(|key| is_match(kind, *key, row))
+}
+
+/// The rows of the first key that has any of the asked kind.
+fn matching_first(
+    alloc: Global,
+    rows: &[AssetRow],
+    kind: Kind,
+    keys: &[Option<KeyNo>],
+) -> Result<Items<RowNo>, NoMemory>
+    requires { length rows.now < 2 ^ 32 }
+    ensures { IfOk result (λ found. found ≡ first_filled (map (λ key. rows_where (is_match kind key) rows.now) keys.now)) }
+{
+    for key in keys {
+        let found = matching(alloc, rows, kind, *key)?;
+        if !found.is_empty() {
+            return Ok(found);
+        }
+    }
+    Ok(Items::new(alloc))
+}
+
+/// The rows that the keys lead to, in the order of the catalogue.
+#[tactic(auto, unfolding(crate::specs::Merge::merged))]
+pub(crate) fn merge_rows(
+    alloc: Global,
+    rows: &[AssetRow],
+    keys: &[Option<KeyNo>],
+    mode: Merge,
+    kind: Kind,
+) -> Result<Items<RowNo>, NoMemory>
+    requires { length rows.now < 2 ^ 32 }
+    ensures { IfOk result (λ found. found ≡ merged rows.now keys.now mode kind) }
+{
+    match mode {
+        Merge::UseFirst => matching_first(alloc, rows, kind, keys),
+        Merge::Union => matching_some(alloc, rows, kind, keys),
+        Merge::Intersection => matching_each(alloc, rows, kind, keys),
+    }
+}
+
+pub(crate) fn is_known(bundles: &[BundleNo], bundle: BundleNo) -> bool
+    ensures { result ≡ list_any (λ c. c.0 == bundle.0) bundles.now }
+{
+    bundles.iter().any(|b| b.0 == bundle.0)
+}
+
+fn deps_of_row(assets: &[AssetRow], row: RowNo) -> &[BundleNo]
+    ensures { result.now ≡ deps_of_row assets.now row }
+{
+    match assets.get(row.0 as usize) {
+        None => &[],
+        Some(asset) => asset.deps.as_slice(),
+    }
+}
+
+/// Appends those of a row's bundles that aren't there yet.
+fn add_deps(found: &mut Items<BundleNo>, deps: &[BundleNo]) -> Result<(), NoMemory>
+    ensures { (seen : List BundleNo) → found.old ≡ distinct seen → OnOk result (found.new ≡ distinct (seen ++ deps.now)) }
+{
+    for dep in deps {
+        if !is_known(found.as_slice(), *dep) {
+            found.push(*dep)?;
+        }
+    }
+    Ok(())
+}
+
+/// The distinct bundles of the rows, in order of first occurrence.
+pub(crate) fn distinct_deps(
+    alloc: Global,
+    assets: &[AssetRow],
+    rows: &[RowNo],
+) -> Result<Items<BundleNo>, NoMemory>
+    ensures { IfOk result (λ found. found ≡ deps_of assets.now rows.now) }
+{
+    let mut found = Items::new(alloc);
+    for row in rows {
+        add_deps(&mut found, deps_of_row(assets, *row))?;
+    }
+    Ok(found)
+}

@@ -1,0 +1,105 @@
+// Rows with their texts numbered. First the texts are listed, each once, then each row's are looked up: two walks, so
+// that a number never depends on how far the first one came.
+ghost use Rattle.std.specs.Prelude.{◌≡◌, ◌<◌, ◌^◌, List, ℕ, map, length, IfOk, IsTrue};
+ghost use Rattle.std.specs.List.{list_all};
+ghost use Rattle.addr_locate.specs.Rows.{place_of, numbered, keys_of, kinds_of, rows_of, has_sound_deps, no_text_twice};
+
+use crate::locator::Locator;
+use crate::rows::{AssetRow, BundleRow, PlainAsset};
+use crate::texts::{add_text, add_texts, place_or_end};
+use addr_base::{Items, KeyNo, NoMemory, Text, TypeNo};
+use std::alloc::Global;
+
+/// The locator of these rows. Each asset has dependencies, each a bundle's number, none twice, and no key twice.
+pub fn of_rows(
+    alloc: Global,
+    bundles: Vec<BundleRow>,
+    assets: Vec<PlainAsset>,
+) -> Result<Locator, NoMemory>
+    requires few_bundles { length bundles.items < 2 ^ 32 }
+    requires few_assets { length assets.items < 2 ^ 32 }
+    requires few_keys { length (keys_of assets.items) < 2 ^ 32 }
+    requires deps { IsTrue (list_all (λ a. has_sound_deps (length bundles.items) a.deps) assets.items) }
+    requires keys { IsTrue (list_all (λ a. no_text_twice a.keys) assets.items) }
+    ensures { IfOk result (λ locator. locator ≡ rows_of bundles.items assets.items) }
+{
+    let keys = keys_of(alloc, assets.as_slice())?;
+    let kinds = kinds_of(alloc, assets.as_slice())?;
+    let assets = number_rows(alloc, keys.as_slice(), kinds.as_slice(), assets)?;
+    let bundles = Items::from_vec(bundles);
+    Ok(Locator {
+        bundles,
+        assets,
+        keys,
+        kinds,
+    })
+}
+
+fn keys_of(alloc: Global, assets: &[PlainAsset]) -> Result<Items<Text>, NoMemory>
+    ensures { IfOk result (λ keys. keys ≡ keys_of assets.now) }
+{
+    let mut keys = Items::new(alloc);
+    for asset in assets {
+        add_texts(alloc, &mut keys, asset.keys.as_slice())?;
+    }
+    Ok(keys)
+}
+
+fn kinds_of(alloc: Global, assets: &[PlainAsset]) -> Result<Items<Text>, NoMemory>
+    ensures { IfOk result (λ kinds. kinds ≡ kinds_of assets.now) }
+{
+    let mut kinds = Items::new(alloc);
+    for asset in assets {
+        add_text(alloc, &mut kinds, &asset.kind)?;
+    }
+    Ok(kinds)
+}
+
+fn number_rows(
+    alloc: Global,
+    keys: &[Text],
+    kinds: &[Text],
+    assets: Vec<PlainAsset>,
+) -> Result<Items<AssetRow>, NoMemory>
+    requires few_keys { length keys.now < 2 ^ 32 }
+    requires few_kinds { length kinds.now < 2 ^ 32 }
+    ensures { IfOk result (λ rows. rows ≡ map (numbered keys.now kinds.now) assets.items) }
+{
+    let mut rows = Items::new(alloc);
+    for asset in assets {
+        rows.push(numbered(alloc, keys, kinds, asset)?)?;
+    }
+    Ok(rows)
+}
+
+fn numbered(
+    alloc: Global,
+    keys: &[Text],
+    kinds: &[Text],
+    asset: PlainAsset,
+) -> Result<AssetRow, NoMemory>
+    requires few_keys { length keys.now < 2 ^ 32 }
+    requires few_kinds { length kinds.now < 2 ^ 32 }
+    ensures { IfOk result (λ row. row ≡ numbered keys.now kinds.now asset) }
+{
+    let kind = TypeNo(place_or_end(kinds, asset.kind.as_str()));
+    let numbers = key_numbers(alloc, keys, asset.keys.as_slice())?;
+    let PlainAsset { id, deps, .. } = asset;
+    Ok(AssetRow {
+        id,
+        kind,
+        deps,
+        keys: numbers,
+    })
+}
+
+fn key_numbers(alloc: Global, keys: &[Text], texts: &[Text]) -> Result<Items<KeyNo>, NoMemory>
+    requires { length keys.now < 2 ^ 32 }
+    ensures { IfOk result (λ numbers. numbers ≡ map (λ t. record { 0 = place_of keys.now t }) texts.now) }
+{
+    let mut numbers = Items::new(alloc);
+    for text in texts {
+        numbers.push(KeyNo(place_or_end(keys, text.as_str())))?;
+    }
+    Ok(numbers)
+}

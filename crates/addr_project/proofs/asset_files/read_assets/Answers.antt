@@ -1,0 +1,72 @@
+use Rattle.std.proofs.Common.{◌≡◌, ℕ, ◌+◌, ◌<◌, ◌≤◌, [], List, length, get_or, Some, None, inl, inr, refl, sym, ap, ◌∙◌, arith, string_bytes}
+use Rattle.std.specs.Option.{option_map}
+use Rattle.addr_base.specs.Files.{file_at}
+use Rattle.addr_base.specs.declared.files.MemFile.{MemFile}
+use Rattle.addr_project.specs.declared.error.ProjectErr.TheVariants.{MissingFile}
+use Rattle.addr_project.specs.AssetFiles.{ReadsAssets}
+use Rattle.addr_project.specs.Reading.{path, bytes_of}
+use Rattle.addr_project.proofs.LoadLemmas.{Told, Anyhow, told-none, told-missing, told-more, told-all, told-assets, anyhow-none, anyhow-more, anyhow-all, never-more, if-some, if-some-at}
+use Rattle.addr_project.proofs.asset_files.read_assets.Goals as goal
+
+pub loop-i-init : goal.loop-i-init
+loop-i-init g c = record {
+  files = refl;
+  later = omega arith;
+  small = omega arith;
+  never = λ same. cc;
+  told = if-some (g.D.Depot.files c.args.depot.now) _ (λ files is. told-none files c.args.folder.now c.args.rows.now _ refl c.new.ensures refl);
+  any = λ none. anyhow-none c.args.rows.now _ c.new.ensures refl;
+}
+
+pub loop-i-preserved : goal.loop-i-preserved
+loop-i-preserved g c =
+    let row = c.index-rows-i.result in
+    let rows = c.args.rows.now in
+    let folder = c.args.folder.now in
+    let at : get_or rows c.loop-i.i row ≡ row = sym c.index-rows-i.is in
+    let name_is : c.as_str-in-loop-i.result.now ≡ path folder row.file = c.as_str-in-loop-i.ensures.value ∙ c.in_ok-name.ensures ∙ ap (path folder) c.as_str.ensures in
+    record {
+      files = c.in_ok-bytes.ensures.same ∙ c.loop-i.invariant.files;
+      later = omega (arith, c.loop-i.invariant.later, c.in_ok-bytes.ensures.cause);
+      never = never-more c.loop-i.loaded c.in_ok-loaded-in-Some.loaded row c.in-Some.bytes.items c.in_ok-loaded-in-Some.ensures.adds c.loop-i.invariant.never;
+      small = c.in_ok-loaded-in-Some.ensures.small;
+      told = if-some (g.D.Depot.files c.args.depot.now) _ (λ files is. (
+          let told = if-some-at _ (g.D.Depot.files c.args.depot.now) files is c.loop-i.invariant.told in
+          let content = if-some-at _ (g.D.Depot.files c.loop-i.depot) files (c.loop-i.invariant.files ∙ is) c.in_ok-bytes.ensures.content in
+          let bytes_is : bytes_of files folder row ≡ Some c.in-Some.bytes.items = ap (λ n. file_at n files) (sym name_is) ∙ sym content ∙ ap (option_map (λ v. v.items)) c.in-Some.is in
+          told-more files folder rows c.loop-i.i row c.loop-i-test.true at c.in-Some.bytes.items bytes_is c.loop-i.loaded c.in_ok-loaded-in-Some.loaded c.in_ok-loaded-in-Some.ensures.adds told));
+      any = λ none. anyhow-more rows c.loop-i.i row c.loop-i-test.true at c.in-Some.bytes.items c.loop-i.loaded c.in_ok-loaded-in-Some.loaded c.in_ok-loaded-in-Some.ensures.adds c.loop-i.invariant.any none;
+    }
+
+pub returns-in-None-clause-told : goal.returns-in-None-clause-told
+returns-in-None-clause-told g c =
+    let row = c.index-rows-i.result in
+    let rows = c.args.rows.now in
+    let folder = c.args.folder.now in
+    let at : get_or rows c.loop-i.i row ≡ row = sym c.index-rows-i.is in
+    let name_is : c.as_str-in-loop-i.result.now ≡ path folder row.file = c.as_str-in-loop-i.ensures.value ∙ c.in_ok-name.ensures ∙ ap (path folder) c.as_str.ensures in
+    if-some (g.D.Depot.files c.args.depot.now) _ (λ files is. (
+    let told = if-some-at _ (g.D.Depot.files c.args.depot.now) files is c.loop-i.invariant.told in
+    let content = if-some-at _ (g.D.Depot.files c.loop-i.depot) files (c.loop-i.invariant.files ∙ is) c.in_ok-bytes.ensures.content in
+    let none : bytes_of files folder row ≡ None = ap (λ n. file_at n files) (sym name_is) ∙ sym content ∙ ap (option_map (λ v. v.items)) c.in-None.is in
+    inr (inr (told-missing files folder rows c.loop-i.i row c.loop-i-test.true at c.loop-i.loaded told none ∙ ap (λ n. Some (MissingFile n)) (sym c.in_ok-row_number-in-None.ensures)))))
+
+pub returns-in-Some-over-clause-told : goal.returns-in-Some-over-clause-told
+returns-in-Some-over-clause-told g c =
+    if-some (g.D.Depot.files c.args.depot.now) _ (λ files is. (
+    let told = if-some-at _ (g.D.Depot.files c.args.depot.now) files is c.loop-i.invariant.told in
+    inr (inr (told-all files c.args.folder.now c.args.rows.now c.loop-i.i c.loop-i.loaded told c.loop-i-test.false ∙ c.in-Some-over.is))))
+
+pub returns-in-Some-over-clause-cause : goal.returns-in-Some-over-clause-cause
+returns-in-Some-over-clause-cause g c = record {
+  later = c.loop-i.invariant.later;
+  failed = λ same. absurd (c.loop-i.invariant.never (c.in-Some-over.is ∙ ap Some same));
+}
+
+pub returns-in-None-over-clause-told : goal.returns-in-None-over-clause-told
+returns-in-None-over-clause-told g c =
+    if-some (g.D.Depot.files c.args.depot.now) _ (λ files is. (
+    let told = if-some-at _ (g.D.Depot.files c.args.depot.now) files is c.loop-i.invariant.told in (
+      told-all files c.args.folder.now c.args.rows.now c.loop-i.i c.loop-i.loaded told c.loop-i-test.false ∙ c.in-None-over.is,
+      told-assets files c.args.folder.now c.args.rows.now c.loop-i.i c.loop-i.loaded told c.loop-i-test.false c.in-None-over.is,
+    )))

@@ -1,0 +1,15 @@
+use Rattle.std.proofs.Common.{◌≡◌, ◌≤◌, None, Some}
+use Rattle.addr_project.specs.declared.error.ProjectErr.TheVariants.{DepotFault}
+use Rattle.std.specs.Prelude.{IfSome}
+use Rattle.addr_project.proofs.LoadLemmas.{Told, Anyhow}
+use Rattle.addr_project.proofs.asset_files.read_assets.Given as goal
+
+abbrev pub invariant-loop-i : goal.invariant-loop-i
+invariant-loop-i g l = record {
+  files : g.D.Depot.files l.depot ≡ g.D.Depot.files l.fn.depot;
+  later : g.D.Depot.faults l.fn.depot ≤ g.D.Depot.faults l.depot;
+  small : l.loaded.total ≤ 268435456;
+  never : l.loaded.over ≡ Some DepotFault → ⊥;
+  told : IfSome (g.D.Depot.files l.fn.depot) (λ files. Told files l.folder l.rows l.i l.loaded);
+  any : l.loaded.over ≡ None → Anyhow l.rows l.i l.loaded;
+}

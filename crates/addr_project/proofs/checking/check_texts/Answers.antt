@@ -1,0 +1,14 @@
+use Rattle.std.proofs.Common.{map, sym, ◌∙◌}
+use Rattle.addr_project.specs.Extents.{answer_of}
+use Rattle.addr_project.proofs.ReplyLemmas.{are_texts}
+use Rattle.addr_project.proofs.checking.check_texts.Goals as goal
+
+pub whole-local-requires : goal.whole-local-requires
+whole-local-requires c =
+    let replies = c.in_ok-replies.replies in
+    (are_texts replies.local replies.remote (map answer_of replies.values.items) (sym c.in_ok-fault.ensures ∙ c.in_default.is)).0
+
+pub whole-remote-requires : goal.whole-remote-requires
+whole-remote-requires c =
+    let replies = c.in_ok-replies.replies in
+    (are_texts replies.local replies.remote (map answer_of replies.values.items) (sym c.in_ok-fault.ensures ∙ c.in_default.is)).1

@@ -1,0 +1,128 @@
+// The files of the assets, read row by row. A file that is missing is told before any size, so after the first size that
+// passes a limit the rest is read only to see that it is there, and let go.
+ghost use Rattle.std.specs.Prelude.{◌≡◌, ◌<◌, ◌≤◌, ◌+◌, ◌^◌, Some, IfOk, IfSome, IfNone, string_bytes, vec_len};
+ghost use Rattle.addr_project.specs.AssetFiles.{ReadsAssets, KeepsRows};
+ghost use Rattle.addr_project.specs.Loading.{Adds};
+ghost use Rattle.addr_project.specs.Reading.{path, asset_from, over_after};
+ghost use Rattle.addr_project.specs.Causes.{HasCause};
+
+use crate::counts::over;
+use crate::error::ProjectErr;
+use crate::limit::Limit;
+use crate::loaded::Loaded;
+use crate::model::Asset;
+use crate::reader::row_number;
+use crate::rows::AssetRow;
+use addr_base::{Depot, Items, NoMemory, Text};
+use std::alloc::Global;
+
+/// The most bytes of an asset's file.
+pub const MOST_ASSET_BYTES: u64 = 67_108_864;
+/// The most bytes of all asset files.
+pub const MOST_ALL_BYTES: u64 = 268_435_456;
+
+/// The depot's name of a file below the folder.
+pub fn path_of(alloc: Global, folder: &str, name: &str) -> Result<String, NoMemory>
+    ensures { IfOk result (λ text. string_bytes text ≡ path folder.now name.now) }
+{
+    let mut text = String::from_str(alloc, folder)?;
+    text.push_str("/")?;
+    text.push_str(name)?;
+    Ok(text)
+}
+
+/// The assets of the rows with the bytes of their files, or the first fault of the files.
+pub fn read_assets<D: Depot>(
+    alloc: Global,
+    depot: &mut D,
+    folder: &str,
+    rows: &[AssetRow],
+) -> Result<Items<Asset>, ProjectErr>
+    ensures told { IfSome (D.files depot.old) (λ files. ReadsAssets files folder.now rows.now result) }
+    ensures kept { IfOk result (KeepsRows rows.now) }
+    ensures same { D.files depot.new ≡ D.files depot.old }
+    ensures cause { HasCause (D.faults depot.old) (D.faults depot.new) result }
+{
+    let mut loaded = Loaded {
+        assets: Items::new(alloc),
+        total: 0,
+        over: None,
+    };
+    for (i, row) in rows.iter().enumerate() {
+        let name = path_of(alloc, folder, row.file.as_str())?;
+        match depot.read(alloc, name.as_str())? {
+            Some(bytes) => loaded = load(alloc, loaded, row, bytes)?,
+            None => return Err(ProjectErr::MissingFile {
+                row: row_number(i)?,
+            }),
+        }
+    }
+    match loaded.over {
+        Some(fault) => Err(fault),
+        None => Ok(loaded.assets),
+    }
+}
+
+/// One more file.
+fn load(alloc: Global, loaded: Loaded, row: &AssetRow, bytes: Vec<u8>) -> Result<Loaded, NoMemory>
+    requires short { vec_len bytes < 2 ^ 32 }
+    requires small { loaded.total ≤ 268435456 }
+    ensures adds { IfOk result (Adds loaded row.now bytes.items) }
+    ensures small { IfOk result (λ new. new.total ≤ 268435456) }
+{
+    if loaded.over.is_some() {
+        return Ok(loaded);
+    }
+    let length = bytes.len() as u64;
+    let fault = over_after(loaded.total, length);
+    if fault.is_some() {
+        let Loaded {
+            assets,
+            total,
+            over: _,
+        } = loaded;
+        return Ok(Loaded {
+            assets,
+            total,
+            over: fault,
+        });
+    }
+    let asset = asset_from(alloc, row, bytes)?;
+    let Loaded {
+        mut assets,
+        total,
+        over: _,
+    } = loaded;
+    assets.push(asset)?;
+    Ok(Loaded {
+        assets,
+        total: total + length,
+        over: None,
+    })
+}
+
+fn asset_from(alloc: Global, row: &AssetRow, bytes: Vec<u8>) -> Result<Asset, NoMemory>
+    ensures { IfOk result (λ asset. asset ≡ asset_from row.now (Some bytes.items)) }
+{
+    let kind = Text::copy_of(alloc, row.kind.as_str())?;
+    let refs = Items::copy_of(alloc, row.refs.as_slice())?;
+    Ok(Asset {
+        guid: row.guid,
+        kind,
+        bytes: Items::from_vec(bytes),
+        refs,
+    })
+}
+
+/// The fault of a file's length after those before it.
+fn over_after(total: u64, length: u64) -> Option<ProjectErr>
+    requires { total + length < 2 ^ 64 }
+    ensures value { result ≡ over_after total length }
+    ensures small { IfNone result (total + length ≤ 268435456) }
+{
+    over(Limit::AssetBytes, MOST_ASSET_BYTES, length).or(over(
+        Limit::AllBytes,
+        MOST_ALL_BYTES,
+        total + length,
+    ))
+}

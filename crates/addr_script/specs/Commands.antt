@@ -1,0 +1,70 @@
+-- The commands of a script, each as the one line that spells it. One space (32) parts the fields of a line.
+use Rattle.std.specs.Prelude.{ℕ, ◌≡◌, ◌≢◌, ◌<◌, ◌^◌, Bool, true, false, List, [], ◌∷◌, ◌++◌, Option, Some, None, map, length, codes, decimal}
+use Rattle.std.specs.List.{AllByRecursion, join_with_byte}
+use Rattle.std.specs.Str.{IsUtf8}
+use Rattle.addr_base.specs.Tokens.{token_of}
+use Rattle.addr_locate.specs.declared.rows.Merge.{Merge}
+use Rattle.addr_locate.specs.declared.rows.Merge.TheVariants.{UseFirst, Union, Intersection}
+use Rattle.addr_script.specs.Causes.{cause_text, IsGivenCause}
+use Rattle.addr_script.specs.declared.command.Command.{Command}
+use Rattle.addr_script.specs.declared.command.Command.TheVariants.{Load, Release, Status, Count, Close, Take, Done, Fail}
+
+abbrev pub one_or_all : Bool → List ℕ
+one_or_all false = codes "one"
+one_or_all true = codes "all"
+
+abbrev pub mode_word : Merge → List ℕ
+mode_word UseFirst = codes "first"
+mode_word Union = codes "union"
+mode_word Intersection = codes "inter"
+
+-- the token of a type, or the mark of any type
+abbrev pub kind_field : Option (List ℕ) → List ℕ
+kind_field None = codes "%*"
+kind_field (Some kind) = token_of kind
+
+-- the tokens of the keys, with a comma (44) between each two
+abbrev pub keys_field : List (List ℕ) → List ℕ
+keys_field keys = join_with_byte 44 (map token_of keys)
+
+abbrev pub spell : Command → List ℕ
+spell (Load caller all mode kind keys) = codes "load " ++ (decimal caller ++ 32 ∷ (one_or_all all ++ 32 ∷ (mode_word mode ++ 32 ∷ (kind_field kind ++ 32 ∷ keys_field keys))))
+spell (Release caller op) = codes "release " ++ (decimal caller ++ 32 ∷ decimal op.0)
+spell (Status op) = codes "status " ++ decimal op.0
+spell (Count b) = codes "count " ++ decimal b.0
+spell Close = codes "close"
+spell (Take worker) = codes "take " ++ decimal worker
+spell (Done worker b) = codes "done " ++ (decimal worker ++ 32 ∷ decimal b.0)
+spell (Fail worker b cause) = codes "fail " ++ (decimal worker ++ 32 ∷ (decimal b.0 ++ 32 ∷ cause_text cause))
+
+-- one text or more
+abbrev pub AreTexts : List (List ℕ) → Type 0
+AreTexts texts = (texts ≢ []) × AllByRecursion IsUtf8 texts
+
+-- one key or more, and so few that a place among them is a number below 2 to the 32nd
+abbrev pub AreKeys : List (List ℕ) → Type 0
+AreKeys keys = AreTexts keys × (length keys < 2 ^ 32)
+
+-- the commands that a script may have: numbers below 2 to the 32nd; a load of one row under the first key that has any, of any type
+abbrev pub IsCommand : Command → Type 0
+IsCommand (Load caller all mode kind keys) = (caller < 2 ^ 32) × (all ≡ false) × (mode ≡ UseFirst) × (kind ≡ None) × AreKeys keys
+IsCommand (Release caller op) = (caller < 2 ^ 32) × (op.0 < 2 ^ 32)
+IsCommand (Status op) = op.0 < 2 ^ 32
+IsCommand (Count b) = b.0 < 2 ^ 32
+IsCommand Close = Unit {0}
+IsCommand (Take worker) = worker < 2 ^ 32
+IsCommand (Done worker b) = (worker < 2 ^ 32) × (b.0 < 2 ^ 32)
+IsCommand (Fail worker b cause) = (worker < 2 ^ 32) × (b.0 < 2 ^ 32) × IsGivenCause cause
+
+-- the line is the command's
+abbrev pub Spells : List ℕ → Command → Type 0
+Spells line command = IsCommand command × (line ≡ spell command)
+
+-- what a line is read as
+abbrev pub ReadsCommand : List ℕ → Option Command → Type 0
+ReadsCommand line (Some command) = Spells line command
+ReadsCommand line None = (command : Command) → Spells line command → ⊥
+
+-- the line of a load of one row under the first key that has any, of any type: its caller and the field of its keys
+abbrev pub IsLoadLine : List ℕ → ℕ → List ℕ → Type 0
+IsLoadLine line caller field = (caller < 2 ^ 32) × (line ≡ codes "load " ++ (decimal caller ++ 32 ∷ (codes "one first %* " ++ field)))

@@ -1,0 +1,4 @@
+pub mod Causes
+pub mod Commands
+pub mod Replies
+pub mod Scripts

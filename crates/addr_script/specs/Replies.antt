@@ -1,0 +1,51 @@
+-- The replies to commands, and the line that each is printed as.
+use Rattle.std.specs.Prelude.{ℕ, List, ◌∷◌, ◌++◌, Some, None, codes, decimal}
+use Rattle.addr_core.specs.declared.answers.BundleState.{BundleState}
+use Rattle.addr_core.specs.declared.answers.BundleState.TheVariants.{Resident, Fetching, Queued, Absent}
+use Rattle.addr_core.specs.declared.answers.Next.{Next}
+use Rattle.addr_core.specs.declared.answers.Next.TheVariants.{Bundle, Idle, End}
+use Rattle.addr_core.specs.declared.answers.OpStatus.{OpStatus}
+use Rattle.addr_core.specs.declared.answers.OpStatus.TheVariants.{Pending, Ready, Failed}
+use Rattle.addr_core.specs.declared.answers.Settled.{Settled}
+use Rattle.addr_core.specs.declared.answers.Settled.TheVariants.{Kept, Dropped}
+use Rattle.addr_script.specs.Causes.{cause_text}
+use Rattle.addr_script.specs.declared.reply.Reply.{Reply}
+use Rattle.addr_script.specs.declared.reply.Reply.TheVariants.{Opened, NoLocation, JournalFull, Closed, Released, NoHandle, Status, Next as NextReply, Settled as SettledReply, NotTaken, Noted, NowClosed, Counted, NoBundle}
+
+abbrev pub status_text : OpStatus → List ℕ
+status_text Pending = codes "pending"
+status_text Ready = codes "ready"
+status_text (Failed b cause) = codes "failed " ++ (decimal b.0 ++ 32 ∷ cause_text cause)
+
+abbrev pub state_word : BundleState → List ℕ
+state_word Resident = codes "resident"
+state_word Fetching = codes "fetching"
+state_word Queued = codes "queued"
+state_word Absent = codes "absent"
+
+abbrev pub next_text : Next → List ℕ
+next_text (Bundle b) = codes "bundle " ++ decimal b.0
+next_text Idle = codes "idle"
+next_text End = codes "end"
+
+abbrev pub settled_word : Settled → List ℕ
+settled_word Kept = codes "kept"
+settled_word Dropped = codes "dropped"
+
+-- a key is named by its token, and `%-` says that there is none to name
+unfoldable pub reply_text : Reply → List ℕ
+reply_text (Opened op) = codes "op " ++ decimal op.0
+reply_text (NoLocation (Some token)) = codes "no-location " ++ token
+reply_text (NoLocation None) = codes "no-location %-"
+reply_text (JournalFull used reserved needed) = codes "journal-full " ++ (decimal used ++ 32 ∷ (decimal reserved ++ 32 ∷ decimal needed))
+reply_text Closed = codes "closed"
+reply_text Released = codes "released"
+reply_text NoHandle = codes "no-handle"
+reply_text (Status status) = status_text status
+reply_text (NextReply next) = next_text next
+reply_text (SettledReply settled) = settled_word settled
+reply_text NotTaken = codes "not-taken"
+reply_text Noted = codes "failed"
+reply_text NowClosed = codes "close"
+reply_text (Counted count state) = codes "count " ++ (decimal count ++ 32 ∷ state_word state)
+reply_text NoBundle = codes "no-bundle"

@@ -1,0 +1,20 @@
+//! Scripts of the loading machine: the lines that are read, and the texts of the replies (docs/formats/scripts.md).
+//!
+//! Promise: `read_script` answers the one script that the bytes are (`specs/Scripts.antt`), else its first bad line;
+//! a reply is printed as `specs/Replies.antt` says.
+//! Units: lines count from 1. Start: `specs/Commands.antt`, then `src/script.rt`.
+#![tactic(auto)]
+
+mod command;
+mod error;
+mod keys;
+mod parser;
+mod reply;
+mod script;
+
+pub use command::Command;
+pub use error::ScriptErr;
+pub use keys::key_list;
+pub use parser::parse_command;
+pub use reply::{CauseText, Reply};
+pub use script::{Script, read_script};

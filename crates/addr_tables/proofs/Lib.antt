@@ -1,0 +1,9 @@
+pub mod Loops
+pub mod FieldLemmas
+pub mod SeenLemmas
+pub mod KeyFacts
+pub mod Steps
+pub mod SectionLemmas
+pub mod RowLemmas
+pub mod WholeLemmas
+pub mod WrittenLemmas

@@ -1,0 +1,12 @@
+use Rattle.std.proofs.Common.{Result, subst}
+use Rattle.addr_tables.specs.declared.rows.Rows.{Rows}
+use Rattle.addr_tables.specs.declared.error.TableErr.{TableErr}
+use Rattle.addr_tables.specs.Faults.{Gives}
+use Rattle.addr_tables.proofs.WholeLemmas.{found_of, is_read}
+use Rattle.addr_tables.proofs.decoder.decode.Goals as goal
+
+pub returns-clause-found : goal.returns-clause-found
+returns-clause-found c = found_of c.args.tables.now c.rows_of.result c.rows_of.ensures.range c.rows_of.ensures.exact
+
+pub returns-clause-only : goal.returns-clause-only
+returns-clause-only c = λ rows is. subst (λ (x : Result Rows TableErr). Gives (λ r. r) c.rows_of.result x) (is_read c.args.tables.now rows is) c.rows_of.ensures.exact

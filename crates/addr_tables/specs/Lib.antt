@@ -1,0 +1,6 @@
+pub mod Format
+pub mod Faults
+pub mod Numbers
+pub mod Seen
+pub mod Written
+pub mod Rows

@@ -1,0 +1,16 @@
+pub mod AgainLaws
+pub mod Answered
+pub mod FieldLaws
+pub mod FoundLaws
+pub mod HeadLaws
+pub mod Loops
+pub mod NamedLaws
+pub mod Promises
+pub mod Ranges
+pub mod Regroup
+pub mod RowLaws
+pub mod SectionLaws
+pub mod Seen
+pub mod WrittenLaws
+pub mod WrittenLengths
+pub mod WrittenRows
