@@ -1,3 +1,4 @@
+pub mod BraceLemmas
 pub mod EscapeLemmas
 pub mod FileLemmas
 pub mod HexLemmas

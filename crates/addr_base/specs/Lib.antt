@@ -1,3 +1,4 @@
+pub mod Braces
 pub mod Escapes
 pub mod Faults
 pub mod Files

@@ -6,7 +6,7 @@ use crate::text::Text;
 pub(crate) const MAX_FILE: usize = 1 << 32;
 
 /// A named byte string.
-#[derive(Debug, Drop)]
+#[derive(Drop)]
 pub struct MemFile {
     /// The whole depot name, or an internal id; its parts stand between `/`.
     pub name: Text,

@@ -6,7 +6,7 @@ ghost use Rattle.addr_base.specs.Images.{Object};
 use crate::ids::{Digest, Guid};
 
 /// Where a reference of an object leads.
-#[derive(Clone, Copy, Debug, PartialEq, Eq)]
+#[derive(Clone, Copy, PartialEq, Eq)]
 pub enum Home {
     /// To the object's own bundle.
     Own,
@@ -15,7 +15,7 @@ pub enum Home {
 }
 
 /// A reference of an object to another one.
-#[derive(Clone, Copy, Debug, PartialEq, Eq)]
+#[derive(Clone, Copy, PartialEq, Eq)]
 pub struct RefTo {
     pub guid: Guid,
     pub home: Home,

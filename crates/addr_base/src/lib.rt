@@ -6,6 +6,7 @@
 //! Start: `specs/Tokens.antt`, then `src/depot.rt`.
 #![tactic(auto)]
 
+mod braced_names;
 mod cause;
 mod depot;
 mod escapes;
@@ -28,6 +29,7 @@ mod tokens;
 mod told;
 mod var;
 
+pub use braced_names::braces;
 pub use cause::{Cause, Layer};
 pub use depot::{Depot, DepotErr};
 pub use escapes::{esc, spellings_differ};

@@ -18,5 +18,5 @@ impl<T: Drop> From<AllocFailed<T>> for NoMemory {
 }
 
 /// A call on the outside failed; the count of faults of what was called says so.
-#[derive(Clone, Copy, Debug, PartialEq, Eq)]
+#[derive(Clone, Copy)]
 pub struct Failed;

@@ -4,7 +4,7 @@ ghost use Rattle.std.specs.Prelude.{◌≡◌};
 
 use crate::depot::{Depot, DepotErr};
 use crate::files::MAX_FILE;
-use crate::memory::{Failed, NoMemory};
+use crate::memory::Failed;
 use crate::streams::Sink;
 use std::alloc::Global;
 use std::fs::OpenFile;
@@ -52,7 +52,9 @@ impl<R: Files> Depot for FolderDepot<'_, R> {
     }
 
     fn put(&mut self, alloc: Global, name: &str, bytes: &[u8]) -> Result<(), DepotErr> {
-        let beside = name_beside(alloc, name)?;
+        let Ok(beside) = format!(in alloc; "{name}{PART}") else {
+            return Err(DepotErr::NoMemory);
+        };
         match replace_file(self.rt, name, beside.as_str(), bytes) {
             Ok(()) => Ok(()),
             Err(error) if error.kind() == ErrorKind::OutOfMemory => Err(DepotErr::NoMemory),
@@ -104,10 +106,6 @@ fn read_file<R: Files>(rt: &R, alloc: Global, name: &str) -> io::Result<Vec<u8>>
     let mut bytes = Vec::new(alloc);
     file.take(MAX_FILE as u64).read_to_end(&mut bytes)?;
     Ok(bytes)
-}
-
-fn name_beside(alloc: Global, name: &str) -> Result<String, NoMemory> {
-    Ok(format!(in alloc; "{name}{PART}")?)
 }
 
 fn replace_file<R: Files>(rt: &R, name: &str, beside: &str, bytes: &[u8]) -> io::Result<()> {

@@ -2,7 +2,7 @@
 use crate::text::Text;
 
 /// A variable of a profile.
-#[derive(Debug, Drop)]
+#[derive(Drop)]
 pub struct Var {
     pub name: Text,
     pub value: Text,

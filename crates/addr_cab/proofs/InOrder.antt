@@ -14,7 +14,7 @@ use Rattle.std.proofs.lemmas.List.Sums.{position_or_len_is}
 use Rattle.std.proofs.lemmas.Map.Text.{is_eq-slice_cmp}
 use Rattle.std.proofs.lemmas.Slice.Eq.{bytes_eq-Decides}
 use Rattle.addr_cab.specs.Spelling.{is_below, is_above}
-use Rattle.addr_cab.specs.Searches.{Ascend, Finds}
+use Rattle.addr_cab.specs.Searches.{Ascend, Finds, FindsPlace}
 
 -- lists of bytes that ascend strictly, from the last one before them on, as they are read
 abbrev pub AscendFrom : Option (List ℕ) → List (List ℕ) → Type 0
@@ -24,7 +24,7 @@ AscendFrom last (bytes ∷ more) = (is_above last bytes ≡ true) × AscendFrom 
 order : IsTotalOrder (slice_cmp nat_cmp)
 order = nat_list_cmp_total
 
-is_less : (o : Ordering) → is_lt o ≡ true → o ≡ Less
+pub is_less : (o : Ordering) → is_lt o ≡ true → o ≡ Less
 is_less Less e = refl
 is_less Equal e = absurd cc
 is_less Greater e = absurd cc
@@ -64,18 +64,26 @@ searchable : {X : Type 0} (key : X → List ℕ) (xs : List X) (text : List ℕ)
 searchable key xs text up =
     searchable_from_sorted order key xs text (λ k d low more. not_above (key (get_or xs k d)) (key (get_or xs (k + 1) d)) (up k (k + 1) d (omega arith) (omega (arith, more))))
 
+-- where a binary search ends without a find, no element is the one
+no_place : {X : Type 0} (key : X → List ℕ) (xs : List X) (text : List ℕ) (i : ℕ) → Ascend key xs → IsBinarySearchResult (λ y. slice_cmp nat_cmp (key y) text) xs (Err i) → (k : ℕ) (d : X) → k < length xs → bytes_eq (key (get_or xs k d)) text ≡ false
+no_place {X} key xs text i up parted k d lt =
+    let parts = parted (searchable key xs text up) in
+    elim (ltb k i) as (λ t. ltb k i ≡ t → bytes_eq (key (get_or xs k d)) text ≡ false) [
+      | true ↦ λ before. sym (is_eq-slice_cmp (key (get_or xs k d)) text) ∙ ap is_eq (parts.0 k d (omega arith) (ltb-true k i before))
+      | false ↦ λ behind. sym (is_eq-slice_cmp (key (get_or xs k d)) text) ∙ ap is_eq (parts.1 k d (ltb-false k i behind) lt)
+    ] refl
+
+pub place_searched : {X : Type 0} (key : X → List ℕ) (xs : List X) (d : X) (text : List ℕ) (r : Result ℕ ℕ) → Ascend key xs → IsSearchInRange r (length xs) → IsBinarySearchResult (λ y. slice_cmp nat_cmp (key y) text) xs r → FindsPlace (λ y. bytes_eq (key y) text) xs r
+place_searched key xs d text (Ok i) up within equal =
+    first_at key xs d i text up within ((bytes_eq-Decides (key (get_or xs i d)) text).0 (sym (is_eq-slice_cmp (key (get_or xs i d)) text) ∙ ap is_eq (equal d)))
+place_searched key xs d text (Err i) up within parted =
+    position_or_len_is (λ y. bytes_eq (key y) text) xs (length xs) d (omega arith) (λ k lt. no_place key xs text i up parted k d lt) (λ past. absurd (omega (arith, past)))
+
 pub searched : {X : Type 0} (key : X → List ℕ) (xs : List X) (d : X) (text : List ℕ) (r : Result ℕ ℕ) → Ascend key xs → IsSearchInRange r (length xs) → IsBinarySearchResult (λ y. slice_cmp nat_cmp (key y) text) xs r → Finds (λ y. bytes_eq (key y) text) xs r
 searched key xs d text (Ok i) up within equal =
+    let first : position_or_len (λ y. bytes_eq (key y) text) xs ≡ i = place_searched key xs d text (Ok i) up within equal in
     let same : bytes_eq (key (get_or xs i d)) text ≡ true = sym (is_eq-slice_cmp (key (get_or xs i d)) text) ∙ ap is_eq (equal d) in
-    let first : position_or_len (λ y. bytes_eq (key y) text) xs ≡ i = first_at key xs d i text up within ((bytes_eq-Decides (key (get_or xs i d)) text).0 same) in
     (within, find_at (λ y. bytes_eq (key y) text) xs ∙ ap (slice_get xs) first, list_any_at (λ y. bytes_eq (key y) text) xs i d within same)
-searched {X} key xs d text (Err i) up within parted =
-    let parts = parted (searchable key xs text up) in
-    let differs : (k : ℕ) (e : X) → k < length xs → bytes_eq (key (get_or xs k e)) text ≡ false = λ k e lt.
-    elim (ltb k i) as (λ t. ltb k i ≡ t → bytes_eq (key (get_or xs k e)) text ≡ false) [
-      | true ↦ λ before. sym (is_eq-slice_cmp (key (get_or xs k e)) text) ∙ ap is_eq (parts.0 k e (omega arith) (ltb-true k i before))
-      | false ↦ λ behind. sym (is_eq-slice_cmp (key (get_or xs k e)) text) ∙ ap is_eq (parts.1 k e (ltb-false k i behind) lt)
-    ] refl
-    in
-    let none : position_or_len (λ y. bytes_eq (key y) text) xs ≡ length xs = position_or_len_is (λ y. bytes_eq (key y) text) xs (length xs) d (omega arith) (λ k lt. differs k d lt) (λ past. absurd (omega (arith, past))) in
-    (find_at (λ y. bytes_eq (key y) text) xs ∙ (ap (slice_get xs) none ∙ slice_get_past xs (length xs) (omega arith)), list_any_none (λ y. bytes_eq (key y) text) xs differs)
+searched key xs d text (Err i) up within parted =
+    let none : position_or_len (λ y. bytes_eq (key y) text) xs ≡ length xs = place_searched key xs d text (Err i) up within parted in
+    (find_at (λ y. bytes_eq (key y) text) xs ∙ (ap (slice_get xs) none ∙ slice_get_past xs (length xs) (omega arith)), list_any_none (λ y. bytes_eq (key y) text) xs (no_place key xs text i up parted))

@@ -1,8 +1,17 @@
 pub mod AgainLaws
 pub mod CabLaws
 pub mod FieldLaws
+pub mod HoldLaws
+pub mod HomeLaws
 pub mod InOrder
 pub mod Loops
+pub mod NumberLaws
+pub mod ObjectLaws
+pub mod OutsideLaws
 pub mod PartLaws
+pub mod Places
+pub mod PutLaws
 pub mod RowLaws
 pub mod TableLaws
+pub mod WrittenLaws
+pub mod WrittenRows

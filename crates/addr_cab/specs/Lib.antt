@@ -3,5 +3,8 @@ pub mod Tails
 pub mod Spelling
 pub mod Faults
 pub mod Format
+pub mod Outside
+pub mod Written
 pub mod Lookup
+pub mod Objects
 pub mod Searches

@@ -3,10 +3,15 @@
 ghost use Rattle.std.specs.Prelude.{◌↔◌, ℕ, List, Ok, ◌≡◌, ◌+◌, ◌≤◌, length, find, option_map, slice_get, IfSome, IfOk};
 ghost use Rattle.std.specs.Option.{option_copied};
 ghost use Rattle.addr_unityfs.specs.Format.{IsBundle};
+ghost use Rattle.addr_base.specs.declared.ids.Digest.{Digest};
+ghost use Rattle.addr_cab.specs.declared.error.CabErr.{CabErr};
+ghost use Rattle.addr_cab.specs.declared.error.CabErr.TheVariants.{Nodes};
+ghost use Rattle.addr_cab.specs.declared.object.ObjectOut.{ObjectOut};
 ghost use Rattle.addr_cab.specs.declared.object.ObjectRow.{ObjectRow};
 ghost use Rattle.addr_cab.specs.Format.{AreBytes, IsTable};
 ghost use Rattle.addr_cab.specs.Faults.{has_guid, table_read};
-ghost use Rattle.addr_cab.specs.Lookup.{object_bytes, CabRead, HoldsTable};
+ghost use Rattle.addr_cab.specs.Lookup.{object_bytes, CabRead, HoldsTable, HasFault, HasNoTable};
+ghost use Rattle.addr_cab.specs.Objects.{IsCab, objects_of, AnswersCab, AnswersFault};
 
 use crate::ascending::Ascending;
 use crate::error::CabErr;
@@ -55,6 +60,13 @@ impl Cab {
         }
     }
 
+    /// The objects in the order of their GUIDs, each with its length and its references.
+    pub fn objects(&self) -> &[ObjectRow]
+        ensures { result.now ≡ self.now.rows }
+    {
+        self.rows.as_slice()
+    }
+
     fn row_of(&self, guid: Guid) -> Option<&ObjectRow>
         ensures row { option_copied result ≡ find (has_guid guid.0) self.now.rows }
         ensures within { IfSome result (λ o. self.now.start + o.now.offset + o.now.size ≤ length self.now.file) }
@@ -101,16 +113,11 @@ impl Image for Cab {
     }
 }
 
-/// Reads the table of a bundle file, and keeps the file. Takes memory for the rows and references alone, and only for
-/// those that are there; the file is dropped where its table has a fault or memory is refused.
-pub fn read_cab(alloc: Global, file: Vec<u8>, bundle: &Bundle) -> Result<Cab, CabErr>
+fn cab_of(alloc: Global, file: Vec<u8>, bundle: &Bundle) -> Result<Cab, CabErr>
     requires { IsBundle file.items bundle.now }
-    // The answer is what the table is read as, or its first fault; want of memory alone is free.
     ensures exact { CabRead file.items bundle.now result }
-    // The bytes of the first node are the table of the objects that are read.
     ensures text { IfOk result (HoldsTable file.items bundle.now) }
-    // Bytes are read without a fault exactly where they are a table, and as its objects.
-    ensures law { (room : ℕ) (table : List ℕ) (rows : List ObjectRow) → AreBytes table → (IsTable room table rows ↔ (table_read room table ≡ Ok rows)) }
+    ensures nodes { HasNoTable bundle.now → result ≡ Err Nodes }
 {
     let Some(nodes) = nodes_of(bundle) else {
         return Err(CabErr::Nodes);
@@ -123,4 +130,28 @@ pub fn read_cab(alloc: Global, file: Vec<u8>, bundle: &Bundle) -> Result<Cab, Ca
         start: bundle.start + nodes.content.offset,
         rows: Items::from_vec(rows),
     })
+}
+
+/// Reads the table of a bundle file, and keeps the file. Takes memory for the rows, their references and the bundles
+/// outside alone, and only for those that are there; the file is dropped where its table has a fault or memory is
+/// refused.
+pub fn read_cab(alloc: Global, file: Vec<u8>, bundle: &Bundle) -> Result<Cab, CabErr>
+    requires { IsBundle file.items bundle.now }
+    // The answer is what the table is read as, or its first fault; want of memory alone is free.
+    ensures exact { CabRead file.items bundle.now result }
+    // So a bundle with no table is refused as such, and a table's first fault is answered, unless memory was refused.
+    ensures nodes { HasNoTable bundle.now → result ≡ Err Nodes }
+    ensures fault { (e : CabErr) → HasFault file.items bundle.now e → AnswersFault result e }
+    // The bytes of the first node are the table of the objects that are read.
+    ensures text { IfOk result (HoldsTable file.items bundle.now) }
+    // The file holds the objects that are answered, with their bytes and references; and where it holds objects these
+    // are answered, unless memory was refused.
+    ensures found { IfOk result (λ c. IsCab file.items bundle.now c.name (objects_of c)) }
+    ensures only { (name : Digest) (objects : List ObjectOut)
+        → IsCab file.items bundle.now name objects → AnswersCab result name objects }
+    // Bytes are read without a fault exactly where they are a table, and as its objects.
+    ensures law { (room : ℕ) (table : List ℕ) (rows : List ObjectRow)
+        → AreBytes table → (IsTable room table rows ↔ (table_read room table ≡ Ok rows)) }
+{
+    cab_of(alloc, file, bundle)
 }

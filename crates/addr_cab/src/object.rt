@@ -1,5 +1,13 @@
-// An object as a table places it in its data.
+// An object as callers give it, and as a table places it in its data.
 use addr_base::{Guid, Items, RefTo};
+
+/// An object to be written: its bytes, and its references in the order in which they are written.
+#[derive(Drop)]
+pub struct ObjectOut {
+    pub guid: Guid,
+    pub bytes: Items<u8>,
+    pub refs: Items<RefTo>,
+}
 
 /// An object of a table: where its bytes lie, counted from the start of the data.
 #[derive(Drop)]

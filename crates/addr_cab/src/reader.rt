@@ -186,7 +186,7 @@ fn tested(alloc: Global, room: u64, table: &[u8]) -> Result<Vec<ObjectRow>, CabE
         rest,
     } = parts_of(alloc, room, table)?;
     let ascending = Ascending { rows: &rows };
-    if let Some(fault) = end_fault(ascending, &outside, room, end, rest) {
+    if let Some(fault) = end_fault(alloc, ascending, &outside, room, end, rest)? {
         return Err(fault);
     }
     Ok(rows)

@@ -1,4 +1,5 @@
 pub mod WordLemmas
 pub mod OnceLemmas
 pub mod OutcomeLemmas
+pub mod PlanningLemmas
 pub mod PlayLemmas

@@ -1,16 +1,16 @@
 -- Bytes that are read as rows, or as a script, have no first bad line.
-use Rattle.std.proofs.Common.{◌≡◌, ◌≤◌, ◌<◌, ◌+◌, ◌-◌, ◌∙◌, sym, ap, subst, refl, ℕ, suc, zero, List, [], ◌∷◌, ◌++◌, length, length-append, take, drop, map, arith, Option, Some, None, IfSome, Ok, Err, IsTrue, true, ◌⊎◌, inl, inr}
+use Rattle.std.proofs.Common.{◌≡◌, ◌≤◌, ◌∙◌, sym, ap, subst, refl, ℕ, suc, zero, List, [], ◌∷◌, ◌++◌, length, take, map, arith, Option, Some, None, IfSome, Ok, Err, ◌⊎◌, inl, inr}
 use Rattle.std.proofs.lemmas.List.{take-map, length-take}
-use Rattle.std.specs.List.{AllByRecursion, list_all}
+use Rattle.std.specs.List.{AllByRecursion}
 use Rattle.addr_fields.specs.Lines.{lines_of as row_lines}
-use Rattle.addr_locate.specs.PlainRows.{ReadsRows, IsFirstBad as RowsBad, PlainLines, ArePlain, IsBundle, IsAsset, bundle_line, asset_line, heading}
+use Rattle.addr_locate.specs.PlainRows.{ReadsRows, ArePlain, IsBundle, IsAsset, bundle_line, asset_line, heading}
 use Rattle.addr_locate.specs.Rows.{Rows}
 use Rattle.addr_locate.specs.declared.error.RowsErr.TheVariants.{Line as RowsLine}
 use Rattle.addr_locate.specs.declared.rows.BundleRow.{BundleRow}
 use Rattle.addr_locate.specs.declared.rows.PlainAsset.{PlainAsset}
 use Rattle.addr_script.specs.Commands.{spell, IsCommand}
 use Rattle.addr_fields.specs.Lines.{lines_of as script_lines}
-use Rattle.addr_script.specs.Scripts.{ReadsScript, IsScript, IsFirstBad as ScriptBad, IsLimit, limit_lines}
+use Rattle.addr_script.specs.Scripts.{ReadsScript, IsScript, IsLimit, limit_lines}
 use Rattle.addr_script.specs.declared.command.Command.{Command}
 use Rattle.addr_script.specs.declared.script.Script.{Script}
 use Rattle.addr_script.specs.declared.error.ScriptErr.TheVariants.{Line as ScriptLine}

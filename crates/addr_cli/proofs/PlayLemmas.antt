@@ -1,13 +1,13 @@
 -- What the machine's calls leave, as a script's commands see it, and one step of the text.
-use Rattle.std.proofs.Common.{◌≡◌, ◌∙◌, ◌+◌, sym, ap, refl, ℕ, Bool, true, false, List, [], ◌∷◌, ◌++◌, append_assoc, append-nil, drop, Result, Ok, Err, Option}
+use Rattle.std.proofs.Common.{◌≡◌, ◌∙◌, sym, ap, refl, ℕ, Bool, true, false, List, [], ◌∷◌, ◌++◌, append_assoc, append-nil, Result, Ok, Err}
 use Rattle.addr_base.specs.declared.ids.BundleNo.{BundleNo}
 use Rattle.addr_locate.specs.Rows.{Rows}
-use Rattle.addr_core.specs.Answers.{done_reply, done_adds}
+use Rattle.addr_history.specs.Answers.{done_reply, done_adds}
 use Rattle.addr_core.specs.Machine.{Machine, grown, with_kept}
-use Rattle.addr_core.specs.Places.{is_fetched_by}
-use Rattle.addr_core.specs.declared.answers.Settled.{Settled}
-use Rattle.addr_core.specs.declared.answers.Settled.TheVariants.{Kept, Dropped}
-use Rattle.addr_core.specs.declared.event.Event.{Event}
+use Rattle.addr_history.specs.Places.{is_fetched_by}
+use Rattle.addr_history.specs.declared.answers.Settled.{Settled}
+use Rattle.addr_history.specs.declared.answers.Settled.TheVariants.{Kept, Dropped}
+use Rattle.addr_history.specs.declared.event.Event.{Event}
 use Rattle.addr_script.specs.Replies.{reply_text}
 use Rattle.addr_script.specs.declared.command.Command.{Command}
 use Rattle.addr_script.specs.declared.command.Command.TheVariants.{Done}

@@ -1,5 +1,5 @@
 -- A name ends with an ending exactly where its last bytes are that ending.
-use Rattle.std.proofs.Common.{◌≡◌, ◌≤◌, ◌+◌, ◌-◌, ◌∙◌, sym, ap, ℕ, List, ◌++◌, length, take, drop, arith, length-append}
+use Rattle.std.proofs.Common.{◌≡◌, ◌-◌, ◌∙◌, sym, ap, ℕ, List, ◌++◌, length, take, drop, arith, length-append}
 use Rattle.std.proofs.lemmas.List.{take-append-drop, take_rest, drop_at}
 
 pub ending_there : (name ending : List ℕ) (at : ℕ) → take (length name - at) (drop at name) ≡ ending → (front : List ℕ) × (name ≡ front ++ ending)

@@ -1,4 +1,7 @@
+pub mod Inspecting
 pub mod Outcome
+pub mod Planning
 pub mod Refusals
+pub mod Requests
 pub mod SimText
 pub mod Words

@@ -1,9 +1,25 @@
 -- What a command line ends with: the text that it prints, or why it is refused.
-use Rattle.std.specs.Prelude.{ℕ, ◌≡◌, ◌++◌, List, [], Option, Some, None, Result, Ok, Err, IfSome, IsNone, IsSomeAnd, MatchOption, unwrap_or, take, ◌⊎◌}
+use Rattle.std.specs.Prelude.{ℕ, ◌≡◌, ◌≢◌, ◌<◌, ◌≤◌, ◌++◌, List, [], Option, Some, None, Result, Ok, Err, IfSome, IsNone, MatchOption, unwrap_or, take, ◌⊎◌}
 use Rattle.addr_base.specs.Faults.{Rose}
 use Rattle.addr_base.specs.Files.{file_at}
 use Rattle.addr_base.specs.Tokens.{token_of}
 use Rattle.addr_base.specs.declared.files.MemFile.{MemFile}
+use Rattle.addr_unityfs.specs.Faults.{bundle_read, fault_number}
+use Rattle.addr_unityfs.specs.Format.{IsBundle}
+use Rattle.addr_unityfs.specs.declared.bundle.Bundle.{Bundle}
+use Rattle.addr_unityfs.specs.declared.error.FsErr.{FsErr}
+use Rattle.addr_cab.specs.Lookup.{Held, CabRead}
+use Rattle.addr_cab.specs.declared.error.CabErr.{CabErr}
+use Rattle.addr_cab.specs.declared.error.CabErr.TheVariants.{NoMemory as CabNoMemory}
+use Rattle.addr_texts.specs.InspectText.{inspect_text}
+use Rattle.addr_texts.specs.PlanText.{PlanText}
+use Rattle.addr_project.specs.Model.{Project}
+use Rattle.addr_project.specs.Reading.{ProjectOf, ProjectFault}
+use Rattle.addr_project.specs.declared.limit.Limit.TheVariants as limit
+use Rattle.addr_pack.specs.LongNames.{NamesFit, IsFirstLong}
+use Rattle.addr_pack.specs.Placement.{IsPlaced}
+use Rattle.addr_pack.specs.declared.bundles.Plan.{Plan}
+use Rattle.addr_layout.specs.Counts.{IsMembersCount, IsDepsCount}
 use Rattle.addr_locate.specs.PlainRows.{ReadsRows}
 use Rattle.addr_locate.specs.Rows.{Rows}
 use Rattle.addr_locate.specs.declared.error.RowsErr.TheVariants.{Line as RowsLine}
@@ -12,9 +28,9 @@ use Rattle.addr_script.specs.declared.script.Script.{Script}
 use Rattle.addr_script.specs.declared.error.ScriptErr.TheVariants.{Line as ScriptLine}
 use Rattle.addr_cli.specs.SimText.{sim_text}
 use Rattle.addr_cli.specs.Refusals.{ended_status, ended_text}
-use Rattle.addr_cli.specs.Words.{IsSimulate, IsCommandLine}
+use Rattle.addr_cli.specs.Words.{Command, simulate, inspect, plan, AsksFor, IsCommandLine}
 use Rattle.addr_cli.specs.declared.refusal.Refusal.{Refusal}
-use Rattle.addr_cli.specs.declared.refusal.Refusal.TheVariants.{NoMemory, Usage, Depot, NoFile, BadRows, BadScript}
+use Rattle.addr_cli.specs.declared.refusal.Refusal.TheVariants.{NoMemory, Usage, Depot, BadProject, NoFile, BadRows, BadBundle, BadScript, TooLarge}
 
 -- the file with that name is there and is read as these rows; as this script
 pub record HasRows (files : List MemFile) (name : List ℕ) (rows : Rows) : Type 0 where
@@ -39,6 +55,50 @@ Simulates files rows script (Err (BadRows n)) = (bytes : List ℕ) × (file_at r
 Simulates files rows script (Err (BadScript n)) = (r : Rows) × HasRows files rows r × (bytes : List ℕ) × (file_at script files ≡ Some bytes) × ReadsScript bytes (Err (ScriptLine n))
 Simulates files rows script (Err _) = ⊥
 
+-- the bytes are the bundle, and so are read without a fault
+pub record HoldsBundle (bytes : List ℕ) (bundle : Bundle) : Type 0 where
+  pub is : IsBundle bytes bundle
+  pub read : bundle_read bytes ≡ Ok bundle
+
+-- what the bytes of a bundle file are read as besides its nodes: the table of its objects, or why they hold none
+abbrev pub ReadsContents : List ℕ → Bundle → Result Held CabErr → Type 0
+ReadsContents bytes bundle contents = (contents ≢ Err CabNoMemory) × CabRead bytes bundle contents
+
+-- what `inspect` ends with over these files: the bundle that the file is, else the first fault of the file
+abbrev pub Inspects : List MemFile → List ℕ → Result (List ℕ) Refusal → Type 0
+Inspects files file (Ok text) = (bytes : List ℕ) × (file_at file files ≡ Some bytes) × (bundle : Bundle) × HoldsBundle bytes bundle × (contents : Result Held CabErr) × ReadsContents bytes bundle contents × (text ≡ inspect_text bundle contents)
+Inspects files file (Err (NoFile token)) = (file_at file files ≡ None) × (token ≡ token_of file)
+Inspects files file (Err (BadBundle token number)) = (bytes : List ℕ) × (file_at file files ≡ Some bytes) × (fault : FsErr) × (bundle_read bytes ≡ Err fault) × (fault_number fault ≡ Some number) × (token ≡ token_of file)
+Inspects files file (Err _) = ⊥
+
+-- the most members, and the most dependencies, of all bundles of a plan together
+abbrev pub most : ℕ
+most = 4000000
+
+-- what a project is planned as: the text of its placement, or the first limit that is passed, with the whole count
+abbrev pub Planned : Project → Result (List ℕ) Refusal → Type 0
+Planned p (Ok text) = NamesFit p × (placement : Plan) × IsPlaced p placement × (m : ℕ) × IsMembersCount p placement m × (m ≤ most) × (d : ℕ) × IsDepsCount p placement d × (d ≤ most) × PlanText p placement text
+Planned p (Err (TooLarge limit.BundleName n)) = (x : ℕ) × IsFirstLong p x n
+Planned p (Err (TooLarge limit.Members n)) = NamesFit p × (placement : Plan) × IsPlaced p placement × IsMembersCount p placement n × (most < n)
+Planned p (Err (TooLarge limit.Deps n)) = NamesFit p × (placement : Plan) × IsPlaced p placement × (m : ℕ) × IsMembersCount p placement m × (m ≤ most) × IsDepsCount p placement n × (most < n)
+Planned p (Err NoMemory) = Unit {0}
+Planned p (Err _) = ⊥
+
+-- what `plan` ends with over these files: what the folder's project is planned as, or the first test that the folder breaks
+abbrev pub Plans : List MemFile → List ℕ → Result (List ℕ) Refusal → Type 0
+Plans files folder (Ok text) = (p : Project) × ProjectOf files folder p × Planned p (Ok text)
+Plans files folder (Err (BadProject fault)) = ProjectFault files folder fault
+Plans files folder (Err (TooLarge which n)) = (p : Project) × ProjectOf files folder p × Planned p (Err (TooLarge which n))
+Plans files folder (Err _) = ⊥
+
+-- the folder is a project, and no limit is passed
+pub record IsPlannable (files : List MemFile) (folder : List ℕ) : Type 0 where
+  pub project : Project
+  pub read : ProjectOf files folder project
+  pub names : NamesFit project
+  pub members : (placement : Plan) (n : ℕ) → IsPlaced project placement → IsMembersCount project placement n → n ≤ most
+  pub deps : (placement : Plan) (n : ℕ) → IsPlaced project placement → IsDepsCount project placement n → n ≤ most
+
 -- a depot at a moment: its files, where it tells them, and its count of faults; a sink: what it was given, and its count
 pub record Store : Type 0 where
   pub files : Option (List MemFile)
@@ -56,18 +116,24 @@ IsRead old new name (Err Depot) = Rose old.faults new.faults
 IsRead old new name (Err NoMemory) = Unit {0}
 IsRead old new name (Err _) = ⊥
 
--- what `simulate` ends with: a fault of the depot only where its count rose, want of memory at any place
-abbrev pub SimulateEnds : List ℕ → List ℕ → Store → Store → Result (List ℕ) Refusal → Type 0
-SimulateEnds rows script old new (Err NoMemory) = Unit {0}
-SimulateEnds rows script old new (Err Depot) = Rose old.faults new.faults
-SimulateEnds rows script old new (Err Usage) = ⊥
-SimulateEnds rows script old new ended = IfSome old.files (λ files. Simulates files rows script ended)
+-- what a command ends with over files that are told: its text, or why it is refused
+abbrev pub Ends : Command → List MemFile → Result (List ℕ) Refusal → Type 0
+Ends (simulate rows script) files ended = Simulates files rows script ended
+Ends (inspect file) files ended = Inspects files file ended
+Ends (plan folder) files ended = Plans files folder ended
+
+-- what a command ends with: a fault of the depot only where its count rose, want of memory at any place
+abbrev pub CommandEnds : Command → Store → Store → Result (List ℕ) Refusal → Type 0
+CommandEnds c old new (Err NoMemory) = Unit {0}
+CommandEnds c old new (Err Depot) = Rose old.faults new.faults
+CommandEnds c old new (Err Usage) = ⊥
+CommandEnds c old new ended = IfSome old.files (λ files. Ends c files ended)
 
 -- what words end with: usage exactly where they are no command's
 abbrev pub EndsWith : List (List ℕ) → Store → Store → Result (List ℕ) Refusal → Type 0
 EndsWith words old new (Err NoMemory) = Unit {0}
 EndsWith words old new (Err Usage) = IsCommandLine words → ⊥
-EndsWith words old new ended = (rows : List ℕ) × (script : List ℕ) × IsSimulate words rows script × SimulateEnds rows script old new ended
+EndsWith words old new ended = (c : Command) × AsksFor words c × CommandEnds c old new ended
 
 -- the whole text was written, and the status is the text's
 abbrev pub IsPrinted : ℕ → List ℕ → ℕ → Stream → Stream → Type 0
@@ -84,13 +150,17 @@ Prints code text status old new = IsPrinted code text status old new ⊎ IsCutSh
 abbrev pub RunsTo : List (List ℕ) → Store → Store → Stream → Stream → ℕ → Type 0
 RunsTo words depot depot_after out out_after status = (ended : Result (List ℕ) Refusal) × EndsWith words depot depot_after ended × Prints (ended_status ended) (ended_text ended) status out out_after
 
--- words of a command, and files there that their readers take
+-- the files that a command needs are there, and are taken by their readers
+abbrev pub IsReady : Command → List MemFile → Type 0
+IsReady (simulate rows script) files = (r : Rows) × HasRows files rows r × (s : Script) × HasScript files script s
+IsReady (plan folder) files = IsPlannable files folder
+IsReady (inspect file) files = (bytes : List ℕ) × (file_at file files ≡ Some bytes) × (bundle : Bundle) × HoldsBundle bytes bundle
+
+-- words of a command, over files that are all that it needs
 pub record IsSound (words : List (List ℕ)) (files : List MemFile) : Type 0 where
-  pub rows : List ℕ
-  pub script : List ℕ
-  pub words_are : IsSimulate words rows script
-  pub rows_read : (r : Rows) × HasRows files rows r
-  pub script_read : (s : Script) × HasScript files script s
+  pub command : Command
+  pub asked : AsksFor words command
+  pub ready : IsReady command files
 
 -- over such files a run ends with status 0, or for want of memory with 1, unless a count of faults rose
 abbrev pub IsComplete : List (List ℕ) → Store → Store → Stream → Stream → ℕ → Type 0

@@ -1,6 +1,6 @@
 -- What `simulate` prints: the replies to the commands one after the other, each at the history that the events before it
 -- make, from the empty one.
-use Rattle.std.specs.Prelude.{ℕ, Bool, true, false, List, [], ◌∷◌, ◌++◌, ◌≡◌, Option, Some, None, Result, Ok, Err, map, unwrap_or, slice_get, if◌then◌else◌}
+use Rattle.std.specs.Prelude.{ℕ, Bool, List, [], ◌∷◌, ◌++◌, ◌≡◌, Option, Some, None, Result, Ok, Err, map, unwrap_or, slice_get, if◌then◌else◌}
 use Rattle.std.specs.Option.{option_map, option_map_or}
 use Rattle.addr_base.specs.Tokens.{token_of}
 use Rattle.addr_base.specs.declared.ids.OpId.{OpId}
@@ -8,16 +8,16 @@ use Rattle.addr_locate.specs.Rows.{Rows, key_of, kind_of}
 use Rattle.addr_locate.specs.declared.rows.Kind.{Kind}
 use Rattle.addr_locate.specs.declared.rows.Kind.TheVariants.{Any, Known, Unknown}
 use Rattle.addr_locate.specs.declared.rows.Merge.{Merge}
-use Rattle.addr_core.specs.Answers.{load_reply, load_adds, release_reply, release_adds, status_reply, take_reply, take_adds, done_reply, done_adds, fail_reply, fail_adds, close_reply, close_adds, count_reply}
-use Rattle.addr_core.specs.declared.answers.BundleState.{BundleState}
-use Rattle.addr_core.specs.declared.answers.NoHandle.{NoHandle as NoHandleErr}
-use Rattle.addr_core.specs.declared.answers.NotTaken.{NotTaken as NotTakenErr}
-use Rattle.addr_core.specs.declared.answers.OpStatus.{OpStatus}
-use Rattle.addr_core.specs.declared.answers.Settled.{Settled as SettledWord}
-use Rattle.addr_core.specs.declared.ask.Ask.{Ask}
-use Rattle.addr_core.specs.declared.error.LoadErr.{LoadErr}
-use Rattle.addr_core.specs.declared.error.LoadErr.TheVariants.{NoLocation as NoLocationErr, JournalFull as JournalFullErr}
-use Rattle.addr_core.specs.declared.event.Event.{Event}
+use Rattle.addr_history.specs.Answers.{load_reply, load_adds, release_reply, release_adds, status_reply, take_reply, take_adds, done_reply, done_adds, fail_reply, fail_adds, close_reply, close_adds, count_reply}
+use Rattle.addr_history.specs.declared.answers.BundleState.{BundleState}
+use Rattle.addr_history.specs.declared.answers.NoHandle.{NoHandle as NoHandleErr}
+use Rattle.addr_history.specs.declared.answers.NotTaken.{NotTaken as NotTakenErr}
+use Rattle.addr_history.specs.declared.answers.OpStatus.{OpStatus}
+use Rattle.addr_history.specs.declared.answers.Settled.{Settled as SettledWord}
+use Rattle.addr_history.specs.declared.ask.Ask.{Ask}
+use Rattle.addr_history.specs.declared.error.LoadErr.{LoadErr}
+use Rattle.addr_history.specs.declared.error.LoadErr.TheVariants.{NoLocation as NoLocationErr, JournalFull as JournalFullErr}
+use Rattle.addr_history.specs.declared.event.Event.{Event}
 use Rattle.addr_core.specs.Machine.{Machine}
 use Rattle.addr_script.specs.Replies.{reply_text}
 use Rattle.addr_script.specs.declared.command.Command.{Command}

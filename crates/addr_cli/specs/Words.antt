@@ -5,10 +5,28 @@ use Rattle.std.specs.Prelude.{ℕ, ◌≡◌, List, [], ◌∷◌, ◌++◌, cod
 abbrev pub IsJsonName : List ℕ → Type 0
 IsJsonName name = (front : List ℕ) × (name ≡ front ++ codes ".json")
 
--- `simulate`, the name of plain rows, and the name of a script
-abbrev pub IsSimulate : List (List ℕ) → List ℕ → List ℕ → Type 0
-IsSimulate words rows script = (words ≡ codes "simulate" ∷ rows ∷ script ∷ []) × ¬ (IsJsonName rows)
+-- what is asked for: a script played over rows, the contents of a bundle file, or the bundles of a project
+pub data Command : Type 0 where
+  simulate : List ℕ → List ℕ → Command
+  inspect : List ℕ → Command
+  plan : List ℕ → Command
+
+-- how it is asked for: the command's word, and the names of its files or its folder
+abbrev pub words_of : Command → List (List ℕ)
+words_of (simulate rows script) = codes "simulate" ∷ rows ∷ script ∷ []
+words_of (inspect file) = codes "inspect" ∷ file ∷ []
+words_of (plan folder) = codes "plan" ∷ folder ∷ []
+
+-- what a command asks of its names: rows are in the plain form
+abbrev pub CanRun : Command → Type 0
+CanRun (simulate rows script) = ¬ (IsJsonName rows)
+CanRun (inspect file) = Unit {0}
+CanRun (plan folder) = Unit {0}
+
+-- the words ask for the command
+abbrev pub AsksFor : List (List ℕ) → Command → Type 0
+AsksFor words c = (words ≡ words_of c) × CanRun c
 
 -- the words of some command
 abbrev pub IsCommandLine : List (List ℕ) → Type 0
-IsCommandLine words = (rows : List ℕ) × (script : List ℕ) × IsSimulate words rows script
+IsCommandLine words = (c : Command) × AsksFor words c

@@ -2,10 +2,13 @@
 //!
 //! Promise: `run` ends as `specs/Outcome.antt` says of its words, the depot's files and the counts of faults; with status 0
 //! it prints exactly the text of `specs/SimText.antt`. `main` calls `run` over the working folder and standard output.
-//! Left out: catalogues, and every command but `simulate`. Start: `specs/Words.antt`, `specs/Outcome.antt`, `src/runner.rt`.
+//! Left out: catalogues, and every command but `simulate`, `inspect` and `plan`. Start: `specs/Words.antt`, `specs/Outcome.antt`, `src/runner.rt`.
 #![tactic(auto)]
 
+mod command;
 mod files;
+mod inspecting;
+mod planning;
 mod refusal;
 mod report;
 mod runner;

@@ -5,6 +5,8 @@ ghost use Rattle.addr_cli.specs.Refusals.{refusal_status, refusal_text};
 use crate::status::Status;
 use addr_base::{DepotErr, NoMemory, Text};
 use addr_locate::RowsErr;
+use addr_pack::PlanErr;
+use addr_project::{Limit, ProjectErr};
 use addr_script::ScriptErr;
 use std::alloc::{AllocError, Global};
 use std::fmt;
@@ -17,12 +19,18 @@ pub enum Refusal {
     Usage,
     /// The depot failed.
     Depot,
+    /// The first test that a project folder breaks.
+    BadProject(ProjectErr),
     /// No file has the name with this token.
     NoFile(Text),
     /// The first bad line of the rows.
     BadRows(u32),
+    /// The token of the name of a file that is no bundle, and the number of its first fault.
+    BadBundle(Text, u8),
     /// The first bad line of the script.
     BadScript(u32),
+    /// A limit that is passed, and the whole count.
+    TooLarge(Limit, u64),
 }
 
 impl Refusal {
@@ -33,9 +41,12 @@ impl Refusal {
             Refusal::NoMemory => Status(1),
             Refusal::Usage => Status(2),
             Refusal::Depot => Status(3),
+            Refusal::BadProject(_) => Status(4),
             Refusal::NoFile(_) => Status(5),
             Refusal::BadRows(_) => Status(7),
+            Refusal::BadBundle(_, _) => Status(8),
             Refusal::BadScript(_) => Status(9),
+            Refusal::TooLarge(_, _) => Status(11),
         }
     }
 }
@@ -51,12 +62,18 @@ impl fmt::Display for Refusal {
             Refusal::NoMemory => f.write_str("error 1 memory"),
             Refusal::Usage => f.write_str("error 2 usage"),
             Refusal::Depot => f.write_str("error 3 depot"),
+            Refusal::BadProject(fault) => write!(f, "error 4 {fault}"),
             Refusal::NoFile(token) => {
                 let name = token.as_str();
                 write!(f, "error 5 {name}")
             }
             Refusal::BadRows(line) => write!(f, "error 7 line {line}"),
+            Refusal::BadBundle(token, number) => {
+                let name = token.as_str();
+                write!(f, "error 8 {name} unityfs {number}")
+            }
             Refusal::BadScript(line) => write!(f, "error 9 {line}"),
+            Refusal::TooLarge(which, count) => write!(f, "error 11 {which} {count}"),
         }
     }
 }
@@ -82,6 +99,22 @@ impl From<DepotErr> for Refusal {
         match e {
             DepotErr::Fault => Refusal::Depot,
             DepotErr::NoMemory => Refusal::NoMemory,
+        }
+    }
+}
+
+impl From<PlanErr> for Refusal {
+    ghost use Rattle.std.specs.Prelude.{◌≡◌};
+    ghost use Rattle.addr_cli.specs.Refusals.{from_plan};
+
+    ghost from_gives = { λ e r. r ≡ from_plan e };
+
+    fn from(e: PlanErr) -> Self {
+        match e {
+            PlanErr::NameTooLong { row: _, length } => {
+                Refusal::TooLarge(Limit::BundleName, length)
+            }
+            PlanErr::NoMemory => Refusal::NoMemory,
         }
     }
 }

@@ -1,16 +1,18 @@
 // A command line from its words to its status. The rows are read and tested before the script.
-ghost use Rattle.std.specs.Prelude.{◌≡◌, ◌↔◌, ◌≤◌, ◌⊎◌, IsTrue, MatchOption, IfSome};
+ghost use Rattle.std.specs.Prelude.{◌≡◌};
 ghost use Rattle.addr_base.specs.Faults.{Rose};
-ghost use Rattle.addr_cli.specs.Outcome.{EndsWith, IsComplete, RunsTo, SimulateEnds};
-ghost use Rattle.addr_cli.specs.Words.{IsCommandLine, IsJsonName, IsSimulate};
+ghost use Rattle.addr_cli.specs.Outcome.{CommandEnds, EndsWith, IsComplete, RunsTo};
+ghost use Rattle.addr_cli.specs.Words.{IsCommandLine, simulate};
 
+use crate::command::{Request, request_of};
 use crate::files::read_file;
+use crate::inspecting::inspect_file;
+use crate::planning::plan_folder;
 use crate::refusal::Refusal;
 use crate::report::report;
 use crate::simulator::simulate;
 use crate::status::Status;
 use addr_base::{Depot, Sink, Text};
-use addr_fields::is_same;
 use addr_locate::read_rows;
 use addr_script::read_script;
 use std::alloc::Global;
@@ -32,32 +34,12 @@ fn command_text<D: Depot>(alloc: Global, words: &[Text], depot: &mut D) -> Resul
     ensures ends { EndsWith words.now (record { files = D.files depot.old; faults = D.faults depot.old }) (record { files = D.files depot.new; faults = D.faults depot.new }) result }
     ensures same { D.files depot.new ≡ D.files depot.old }
 {
-    match simulate_words(words) {
-        Some((rows, script)) => simulate_files(alloc, rows, script, depot),
+    match request_of(words) {
+        Some(Request::Simulate { rows, script }) => simulate_files(alloc, rows, script, depot),
+        Some(Request::Inspect { file }) => inspect_file(alloc, file, depot),
+        Some(Request::Plan { folder }) => plan_folder(alloc, folder, depot),
         None => Err(Refusal::Usage),
     }
-}
-
-/// The names of the rows and of the script, where the words are those of `simulate`.
-fn simulate_words(words: &[Text]) -> Option<(&Text, &Text)>
-    ensures { MatchOption result (IsCommandLine words.now → ⊥) (λ p. IsSimulate words.now p.0.now p.1.now) }
-{
-    match words {
-        [command, rows, script] => {
-            if is_same(command.as_bytes(), b"simulate") && !is_json_name(rows.as_bytes()) {
-                Some((rows, script))
-            } else {
-                None
-            }
-        }
-        _ => None,
-    }
-}
-
-fn is_json_name(name: &[u8]) -> bool
-    ensures { IsTrue result ↔ IsJsonName name.now }
-{
-    name.len() >= 5 && is_same(&name[name.len() - 5..], b".json")
 }
 
 fn simulate_files<D: Depot>(
@@ -66,7 +48,7 @@ fn simulate_files<D: Depot>(
     script: &Text,
     depot: &mut D,
 ) -> Result<Text, Refusal>
-    ensures ends { SimulateEnds rows.now script.now (record { files = D.files depot.old; faults = D.faults depot.old }) (record { files = D.files depot.new; faults = D.faults depot.new }) result }
+    ensures ends { CommandEnds (simulate rows.now script.now) (record { files = D.files depot.old; faults = D.faults depot.old }) (record { files = D.files depot.new; faults = D.faults depot.new }) result }
     ensures same { D.files depot.new ≡ D.files depot.old }
 {
     let bytes = read_file(alloc, depot, rows)?;

@@ -2,7 +2,7 @@
 ghost use Rattle.std.specs.Prelude.{◌≡◌, ◌<◌, ◌^◌, [], IfOk, IfSome, OnOk, length, map, slice_get, unwrap_or};
 ghost use Rattle.std.specs.List.{AllByRecursion};
 ghost use Rattle.std.specs.Option.{option_map};
-ghost use Rattle.addr_core.specs.Answers.{load_adds, load_reply};
+ghost use Rattle.addr_history.specs.Answers.{load_adds, load_reply};
 ghost use Rattle.addr_core.specs.Machine.{grown};
 ghost use Rattle.addr_locate.specs.Rows.{key_of};
 ghost use Rattle.addr_script.specs.Commands.{IsCommand};

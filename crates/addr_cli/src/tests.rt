@@ -9,7 +9,9 @@ use std::fmt::Write;
 use std::test::Fail;
 
 mod faulty;
+mod inspected;
 mod interleavings;
+mod planned;
 mod worked;
 
 const WORDS: &str = "simulate r s";
@@ -31,19 +33,25 @@ fn words_of(alloc: Global, line: &str) -> Result<Vec<Text>, Fail> {
     Ok(words)
 }
 
-fn add_file(alloc: Global, files: &mut Vec<MemFile>, name: &str, bytes: &str) -> Result<(), Fail> {
+fn add_file(alloc: Global, files: &mut Vec<MemFile>, name: &str, bytes: &[u8]) -> Result<(), Fail> {
     files.push(MemFile {
         name: Text::copy_of(alloc, name)?,
-        bytes: Items::copy_of(alloc, bytes.as_bytes())?,
+        bytes: Items::copy_of(alloc, bytes)?,
     })?;
     Ok(())
+}
+
+fn one_file(alloc: Global, name: &str, bytes: &[u8]) -> Result<Vec<MemFile>, Fail> {
+    let mut files = Vec::new(alloc);
+    add_file(alloc, &mut files, name, bytes)?;
+    Ok(files)
 }
 
 /// The rows as the file `r`, and the script as the file `s`.
 fn both_files(alloc: Global, rows: &str, script: &str) -> Result<Vec<MemFile>, Fail> {
     let mut files = Vec::new(alloc);
-    add_file(alloc, &mut files, "r", rows)?;
-    add_file(alloc, &mut files, "s", script)?;
+    add_file(alloc, &mut files, "r", rows.as_bytes())?;
+    add_file(alloc, &mut files, "s", script.as_bytes())?;
     Ok(files)
 }
 
@@ -180,8 +188,7 @@ fn names_missing_files_rows_first(rt: HostRuntime) -> Result<(), Fail> {
         (worked::ROWS, 5, "error 5 s\n"),
         ("x", 7, "error 7 line 1\n"),
     ] {
-        let mut files = Vec::new(rt.alloc());
-        add_file(rt.alloc(), &mut files, "r", rows)?;
+        let files = one_file(rt.alloc(), "r", rows.as_bytes())?;
         assert!(rt;
             ends(rt.alloc(), WORDS, files, NO_FAULT, status, printed)?,
             "{printed}"
@@ -259,5 +266,55 @@ fn plays_300_mixed_commands(rt: HostRuntime) -> Result<(), Fail> {
     }
     let files = both_files(rt.alloc(), worked::ROWS, script.as_str())?;
     assert!(rt; ends(rt.alloc(), WORDS, files, NO_FAULT, 0, replies.as_str())?);
+    Ok(())
+}
+
+#[test]
+fn inspects_bundle_files(rt: HostRuntime) -> Result<(), Fail> {
+    let cases = [
+        (inspected::OPAQUE, 0, inspected::OPAQUE_TEXT),
+        (inspected::TABLE, 0, inspected::TABLE_TEXT),
+        (&inspected::OPAQUE[..20], 8, "error 8 b unityfs 1\n"),
+        (&inspected::TABLE[..200], 8, "error 8 b unityfs 6\n"),
+    ];
+    for (bytes, status, text) in cases {
+        let files = one_file(rt.alloc(), "b", bytes)?;
+        assert!(rt;
+            ends(rt.alloc(), "inspect b", files, NO_FAULT, status, text)?,
+            "{text}"
+        );
+    }
+    Ok(())
+}
+
+/// The project file of a folder `F`, and a file for its assets.
+fn project_files(alloc: Global, toml: &str) -> Result<Vec<MemFile>, Fail> {
+    let mut files = one_file(alloc, "F/project.toml", toml.as_bytes())?;
+    add_file(alloc, &mut files, "F/a", b"A")?;
+    Ok(files)
+}
+
+#[test]
+fn plans_projects(rt: HostRuntime) -> Result<(), Fail> {
+    for (toml, text) in [
+        (planned::GAME, planned::GAME_TEXT),
+        (planned::RING, planned::RING_TEXT),
+        ("", ""),
+    ] {
+        let files = project_files(rt.alloc(), toml)?;
+        assert!(rt;
+            ends(rt.alloc(), "plan F", files, NO_FAULT, 0, text)?,
+            "{text}"
+        );
+    }
+    for (toml, status, text) in planned::REFUSED {
+        let files = project_files(rt.alloc(), toml)?;
+        assert!(rt;
+            ends(rt.alloc(), "plan F", files, NO_FAULT, status, text)?,
+            "{text}"
+        );
+    }
+    let none = Vec::new(rt.alloc());
+    assert!(rt; ends(rt.alloc(), "plan F", none, NO_FAULT, 4, "error 4 1 - 0\n")?);
     Ok(())
 }

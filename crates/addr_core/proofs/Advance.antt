@@ -11,21 +11,21 @@ use Rattle.addr_base.specs.declared.ids.BundleNo.{BundleNo}
 use Rattle.addr_base.specs.declared.ids.Digest.{Digest}
 use Rattle.addr_base.specs.declared.ids.OpId.{OpId}
 use Rattle.addr_locate.specs.Rows.{Rows, has_sound_deps}
-use Rattle.addr_core.specs.declared.ask.Ask.{Ask}
-use Rattle.addr_core.specs.declared.event.Event.{Event}
-use Rattle.addr_core.specs.declared.event.Event.TheVariants.{Load, Release, Take, Done, Fail, Close}
-use Rattle.addr_core.specs.Events.{is_load, is_done_of, needs_of, needs_of_event}
-use Rattle.addr_core.specs.Counts.{count_of, loads_of, is_unreleased}
-use Rattle.addr_core.specs.Places.{is_resident, is_fetched_by, bundles_of}
-use Rattle.addr_core.specs.Answers.{load_reply, load_adds, release_adds, done_adds}
-use Rattle.addr_core.specs.Legal.{IsAnswer, IsQuiet, Legal}
+use Rattle.addr_history.specs.declared.ask.Ask.{Ask}
+use Rattle.addr_history.specs.declared.event.Event.{Event}
+use Rattle.addr_history.specs.declared.event.Event.TheVariants.{Load, Release, Take, Done, Fail, Close}
+use Rattle.addr_history.specs.Events.{is_load, is_done_of, needs_of, needs_of_event}
+use Rattle.addr_history.specs.Counts.{count_of, loads_of, is_unreleased}
+use Rattle.addr_history.specs.Places.{is_resident, is_fetched_by, bundles_of}
+use Rattle.addr_history.specs.Answers.{load_reply, load_adds, release_adds, done_adds}
+use Rattle.addr_history.specs.Legal.{IsAnswer, Legal}
 use Rattle.addr_core.specs.Machine.{Machine, images_left, HasImages, ImagesFit, IsCore}
-use Rattle.addr_core.specs.Walk.{needs_of_loads, Known}
-use Rattle.addr_core.proofs.Steps.{counts_on, resident_push}
-use Rattle.addr_core.proofs.Legality.{extend, empty}
+use Rattle.addr_core.specs.Walk.{IsQuiet, needs_of_loads, Known}
+use Rattle.addr_history.proofs.Steps.{counts_on, resident_push}
+use Rattle.addr_history.proofs.Legality.{extend, empty}
 use Rattle.addr_core.proofs.Walking.{count_step}
-use Rattle.addr_core.proofs.Ranges.{same_bundle}
-use Rattle.addr_core.proofs.Owed.{numbers, within_limit}
+use Rattle.addr_history.proofs.Ranges.{same_bundle}
+use Rattle.addr_history.proofs.Owed.{numbers, within_limit}
 use Rattle.addr_core.proofs.Keeping.{none_resident, left_all, held_left, held_set, fit_left, fit_set, count_kept, stays_resident, was_resident}
 
 module _ (rows : Rows) (limit : ℕ) where

@@ -6,16 +6,16 @@ use Rattle.std.proofs.lemmas.List.FromFn.{length-enumerate_from}
 use Rattle.std.specs.List.{enumerate_from}
 use Rattle.addr_base.specs.declared.ids.BundleNo.{BundleNo}
 use Rattle.addr_locate.specs.Rows.{Rows}
-use Rattle.addr_core.specs.declared.event.Event.{Event}
-use Rattle.addr_core.specs.Events.{is_done_of}
-use Rattle.addr_core.specs.Counts.{count_of}
-use Rattle.addr_core.specs.Places.{is_resident}
-use Rattle.addr_core.specs.Legal.{Legal}
+use Rattle.addr_history.specs.declared.event.Event.{Event}
+use Rattle.addr_history.specs.Events.{is_done_of}
+use Rattle.addr_history.specs.Counts.{count_of}
+use Rattle.addr_history.specs.Places.{is_resident}
+use Rattle.addr_history.specs.Legal.{Legal}
 use Rattle.addr_core.specs.Walk.{needs_of_loads, names, counted}
-use Rattle.addr_core.proofs.Steps.{counts_on, resident_push}
-use Rattle.addr_core.proofs.Legality.{by_events}
+use Rattle.addr_history.proofs.Steps.{counts_on, resident_push}
+use Rattle.addr_history.proofs.Legality.{by_events}
 use Rattle.addr_core.proofs.Walking.{count_step}
-use Rattle.addr_core.proofs.Owed.{numbers}
+use Rattle.addr_history.proofs.Owed.{numbers}
 
 pub none_resident : (rows : Rows) (b : BundleNo) → is_resident rows [] b ≡ false
 unfolding is_resident

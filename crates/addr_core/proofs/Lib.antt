@@ -1,12 +1,7 @@
 mod Advance
-mod Counting
 mod Keeping
-mod Legality
-mod Owed
-mod Points
+mod Needs
 mod Preparing
 mod Queueing
-mod Ranges
-mod Steps
+mod Since
 mod Walking
-mod Worked

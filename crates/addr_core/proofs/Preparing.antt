@@ -9,17 +9,17 @@ use Rattle.addr_base.specs.declared.ids.BundleNo.{BundleNo}
 use Rattle.addr_base.specs.declared.ids.OpId.{OpId}
 use Rattle.addr_locate.specs.Rows.{Rows, are_bundles, no_repeats}
 use Rattle.addr_locate.specs.Merge.{merged}
-use Rattle.addr_core.specs.declared.ask.Ask.{Ask}
-use Rattle.addr_core.specs.declared.error.LoadErr.{LoadErr}
-use Rattle.addr_core.specs.declared.error.LoadErr.TheVariants.{Closed, NoLocation, JournalFull}
-use Rattle.addr_core.specs.declared.event.Event.{Event}
-use Rattle.addr_core.specs.Events.{is_in, needs_of}
-use Rattle.addr_core.specs.Counts.{is_closed, loads_of}
-use Rattle.addr_core.specs.Places.{is_absent}
-use Rattle.addr_core.specs.Answers.{reserved, needed, first_missing, is_none, load_reply}
-use Rattle.addr_core.proofs.Counting.{one_if}
-use Rattle.addr_core.proofs.Ranges.{same_bundle}
-use Rattle.addr_core.proofs.Owed.{numbers, count_ge2, count_in_range}
+use Rattle.addr_history.specs.declared.ask.Ask.{Ask}
+use Rattle.addr_history.specs.declared.error.LoadErr.{LoadErr}
+use Rattle.addr_history.specs.declared.error.LoadErr.TheVariants.{Closed, NoLocation, JournalFull}
+use Rattle.addr_history.specs.declared.event.Event.{Event}
+use Rattle.addr_history.specs.Events.{is_in, needs_of}
+use Rattle.addr_history.specs.Counts.{is_closed, loads_of}
+use Rattle.addr_history.specs.Places.{is_absent}
+use Rattle.addr_history.specs.Answers.{reserved, needed, first_missing, is_none, load_reply}
+use Rattle.addr_history.proofs.Counting.{one_if}
+use Rattle.addr_history.proofs.Ranges.{same_bundle}
+use Rattle.addr_history.proofs.Owed.{numbers, count_ge2, count_in_range}
 
 replied : Bool → Bool → Bool → Option ℕ → LoadErr → OpId → Result OpId LoadErr
 replied closed none full first refusal op = if closed then Err Closed else if none then Err (NoLocation first) else if full then Err refusal else Ok op

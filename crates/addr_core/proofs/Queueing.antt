@@ -1,28 +1,32 @@
--- The first of the queue, place by place; and counts over all bundles, number by number.
-use Rattle.std.proofs.Common.{◌≡◌, ℕ, ◌+◌, ◌≤◌, ◌<◌, zero, suc, Bool, true, false, ◌&&◌, not, ltb, List, [], ◌∷◌, ◌++◌, length, filter, Option, Some, None, slice_get, get_or, take, drop, refl, sym, ◌∙◌, ap, subst, append_assoc, arith, length-take, length-append, length-drop, take-append-drop, add-one, zero-add}
-use Rattle.std.proofs.lemmas.List.{take_more, drop_more, length-map}
+-- The first of the queue, by the earliest place since which a bundle waits; and counts over all bundles, number by number.
+use Rattle.std.proofs.Common.{◌≡◌, ◌⊎◌, inl, inr, ℕ, ◌+◌, ◌≤◌, ◌<◌, zero, suc, Bool, true, false, eqb, List, [], ◌∷◌, ◌++◌, length, filter, Option, Some, None, is_some, slice_get, take, drop, get_or, refl, sym, ◌∙◌, ap, append_assoc, arith, length-append, min, add-one, zero-add, if◌then◌else◌}
+use Rattle.std.proofs.lemmas.Bool.{false≢true, ne_eqb, eq-eqb, cases_eq, cases_lt, or_cases}
+use Rattle.std.proofs.lemmas.List.{length-map}
+use Rattle.std.proofs.lemmas.List.Elements.{filter_agree}
 use Rattle.std.proofs.lemmas.List.FromFn.{length-range_with_len}
 use Rattle.std.proofs.lemmas.List.Sums.{count_by-le-length}
+use Rattle.std.proofs.lemmas.Option.{slice_get_within, slice_get-get_or, get_or_from_slice_get}
 use Rattle.std.specs.Prelude.{unwrap_or}
-use Rattle.std.specs.List.{list_any, count_by, range_with_len}
+use Rattle.std.specs.Option.{option_map_or}
+use Rattle.std.specs.List.{count_by, range_with_len}
 use Rattle.addr_base.specs.declared.ids.BundleNo.{BundleNo}
 use Rattle.addr_base.specs.declared.ids.OpId.{OpId}
 use Rattle.addr_locate.specs.Rows.{Rows}
-use Rattle.addr_core.specs.declared.ask.Ask.{Ask}
-use Rattle.addr_core.specs.declared.event.Event.{Event}
-use Rattle.addr_core.specs.declared.event.Event.TheVariants.{Load}
-use Rattle.addr_core.specs.declared.standing.Standing.{Standing}
-use Rattle.addr_core.specs.Events.{is_in, is_load, is_take_of, needs_of_event, over_events}
-use Rattle.addr_core.specs.Counts.{count_of, open_count}
-use Rattle.addr_core.specs.Places.{stays_positive, is_resident, is_fetched, waits, queue}
-use Rattle.addr_core.specs.Legal.{Legal}
-use Rattle.addr_core.specs.Walk.{needs_of_loads, needs_at, names, counted, IsStanding, Known}
-use Rattle.addr_core.proofs.Points.{each_point_push, none_push}
-use Rattle.addr_core.proofs.Legality.{load_facts}
-use Rattle.addr_core.proofs.Counting.{one_if, count_push, at_load}
-use Rattle.addr_core.proofs.Walking.{count_step, asks_step, count_le, cut, cut_next}
-use Rattle.addr_core.proofs.Ranges.{head-distinct}
-use Rattle.addr_core.proofs.Owed.{numbers}
+use Rattle.addr_history.specs.declared.ask.Ask.{Ask}
+use Rattle.addr_history.specs.declared.event.Event.{Event}
+use Rattle.addr_history.specs.declared.event.Event.TheVariants.{Load, Close}
+use Rattle.addr_history.specs.Events.{is_in, needs_of, needs_of_event, over_events}
+use Rattle.addr_history.specs.Counts.{open_count}
+use Rattle.addr_history.specs.Places.{waits, queue}
+use Rattle.addr_core.specs.Walk.{needs_of_loads, needs_at, first_place, since_of, asked_at, is_place, earlier, IsEarliest, Known}
+use Rattle.addr_history.proofs.Points.{Test}
+use Rattle.addr_core.proofs.Since.{since_queued}
+use Rattle.addr_history.proofs.Legality.{load_facts}
+use Rattle.addr_history.proofs.Counting.{one_if, count_push}
+use Rattle.addr_core.proofs.Needs.{at_load}
+use Rattle.addr_core.proofs.Walking.{cut_next}
+use Rattle.addr_history.proofs.Ranges.{Sound, same_bundle, queued_below, waits_asked, head-distinct}
+use Rattle.addr_history.proofs.Owed.{numbers}
 
 pub open_none : open_count [] ≡ 0
 unfolding open_count
@@ -47,127 +51,174 @@ count_more p n m is =
 pub count_few : (p : BundleNo → Bool) (n m : ℕ) → m ≡ count_by p (numbers 0 n) → m ≤ n
 count_few p n m is = omega (arith, count_by-le-length p (numbers 0 n), length-map (range_with_len 0 n) (λ k. let r : BundleNo = record { 0 = k } in r), length-range_with_len 0 n)
 
--- what an event of the journal asks for is kept for its operation
-pub asked_here : (rows : Rows) (limit : ℕ) (events : List Event) (needs : List (List BundleNo)) (place : ℕ) (e : Event) (op : OpId) (caller : ℕ) (ask : Ask) → Known rows limit events needs → place < length events → e ≡ get_or events place e → e ≡ Load op caller ask → needs_at needs op ≡ needs_of_event rows e
-asked_here rows limit events needs place e op caller ask known lt here is =
-    let parts = cut_next events place e lt here in
-    let whole : events ≡ take place events ++ Load op caller ask ∷ drop (place + 1) events = parts.0 ∙ ap (λ x. take place events ++ x ∷ drop (place + 1) events) is in
-    let f = load_facts rows limit (take place events) op caller ask (known.legal.answers (take place events) (Load op caller ask) (drop (place + 1) events) whole) in
-    ap (λ (n : List (List BundleNo)). needs_at n op) (known.paired ∙ ap (needs_of_loads rows) whole)
+-- what the event at a place of the journal asks for is kept for its operation
+pub asked_here : (rows : Rows) (limit : ℕ) (events : List Event) (needs : List (List BundleNo)) (place : ℕ) (op : OpId) (caller : ℕ) (ask : Ask) → Known rows limit events needs → slice_get events place ≡ Some (Load op caller ask) → needs_at needs op ≡ needs_of rows ask
+asked_here rows limit events needs place op caller ask known is =
+    let e = Load op caller ask in
+    let parts = cut_next events place e (slice_get_within events place e is) (sym (get_or_from_slice_get events place e e is)) in
+    let f = load_facts rows limit (take place events) op caller ask (known.legal.answers (take place events) e (drop (place + 1) events) parts.0) in
+    ap (λ (n : List (List BundleNo)). needs_at n op) (known.paired ∙ ap (needs_of_loads rows) parts.0)
     ∙ ap (λ (o : Option (List BundleNo)). unwrap_or o []) (at_load rows limit (take place events) op caller ask (drop (place + 1) events) f.number)
-    ∙ ap (needs_of_event rows) (sym is)
 
-module _ (rows : Rows) (limit : ℕ) (events : List Event) (needs : List (List BundleNo)) (known : Known rows limit events needs) where
-  -- the count along what comes after a place
-  module _ (place j : ℕ) (e : Event) (b : BundleNo) (lt : j < length (drop place events)) (here : e ≡ get_or (drop place events) j e) where
-    h : List Event
-    h = take place events ++ take j (drop place events)
+-- the earliest place of one more
+last_or : (m n : ℕ) → m < n + 1 → (m < n) ⊎ (m ≡ n)
+last_or m n lt = elim (cases_lt m n) [ inl less ↦ inl less | inr le ↦ inr (omega arith) ]
 
-    next : take place events ++ take (j + 1) (drop place events) ≡ h ++ e ∷ []
-    unfolding h
-    next =
-        ap (λ (l : List Event). take place events ++ l) (take_more (drop place events) j e lt ∙ ap (λ x. take j (drop place events) ++ x ∷ []) (sym here))
-        ∙ sym (append_assoc (take place events) (take j (drop place events)) (e ∷ []))
+pub earlier_step : (places : ℕ → Option ℕ) (n : ℕ) (first next : Option ℕ) → next ≡ places n → IsEarliest places n first → IsEarliest places (n + 1) (earlier first next)
+earlier_step places n None None is none = λ m lt. elim (last_or m n lt) [
+  | inl less ↦ none m less
+  | inr same ↦ ap places same ∙ sym is
+]
+earlier_step places n None (Some q) is none = (
+  (n, omega arith, sym is),
+  λ m r lt here. elim (last_or m n lt) [
+    | inl less ↦ let nothing : None ≡ Some r = sym (none m less) ∙ here in cc
+    | inr same ↦ let it : Some q ≡ Some r = is ∙ sym (ap places same) ∙ here in let is_it : q ≡ r = cc in omega arith
+  ],
+)
+earlier_step places n (Some p) None is some = (
+  (some.0.0, omega (arith, some.0.1), some.0.2),
+  λ m r lt here. elim (last_or m n lt) [
+    | inl less ↦ some.1 m r less here
+    | inr same ↦ let nothing : None ≡ Some r = is ∙ sym (ap places same) ∙ here in cc
+  ],
+)
+earlier_step places n (Some p) (Some q) is some = (
+  elim (cases_lt q p) [
+    | inl less ↦ let it : min p q ≡ q = omega arith in (n, omega arith, sym is ∙ ap Some (sym it))
+    | inr le ↦ let it : min p q ≡ p = omega arith in (some.0.0, omega (arith, some.0.1), some.0.2 ∙ ap Some (sym it))
+  ],
+  λ m r lt here. elim (last_or m n lt) [
+    | inl less ↦ let le : p ≤ r = some.1 m r less here in omega arith
+    | inr same ↦ let it : Some q ≡ Some r = is ∙ sym (ap places same) ∙ here in let is_it : q ≡ r = cc in omega arith
+  ],
+)
 
-    whole : events ≡ h ++ e ∷ drop (j + 1) (drop place events)
-    unfolding h
-    whole =
-        sym (take-append-drop place events)
-        ∙ ap (λ (l : List Event). take place events ++ l) (cut (drop place events) j e lt ∙ ap (λ x. take j (drop place events) ++ x ∷ drop (j + 1) (drop place events)) (sym here))
-        ∙ sym (append_assoc (take place events) (take j (drop place events)) (e ∷ drop (j + 1) (drop place events)))
+-- a first place is one of those that are looked at
+place_within : (f : Test) (before h : List Event) (q : ℕ) → first_place f before h ≡ Some q → (length before ≤ q) × (q < length before + length h)
+place_within f before [] q is = cc
+place_within f before (e ∷ h) q is = at (f before e h) is (λ later. place_within f (before ++ e ∷ []) h q later)
+  where
+    at : (t : Bool) → (if t then Some (length before) else first_place f (before ++ e ∷ []) h) ≡ Some q → (first_place f (before ++ e ∷ []) h ≡ Some q → (length (before ++ e ∷ []) ≤ q) × (q < length (before ++ e ∷ []) + length h)) → (length before ≤ q) × (q < length before + suc (length h))
+    at true given later = let same : length before ≡ q = cc in (omega arith, omega arith)
+    at false given later = let bounds = later given in (omega (arith, bounds.0, length-append before (e ∷ [])), omega (arith, bounds.1, length-append before (e ∷ [])))
 
-    pub count_along : (count : ℕ) → count ≡ count_of rows (take place events ++ take j (drop place events)) b → counted e (names needs b e) count ≡ count_of rows (take place events ++ take (j + 1) (drop place events)) b
-    unfolding h
-    count_along count is =
-        ap (counted e (names needs b e)) is
-        ∙ ap (λ (n : List (List BundleNo)). counted e (names n b e) (count_of rows h b)) (known.paired ∙ ap (needs_of_loads rows) whole)
-        ∙ sym (count_step rows limit h e (drop (j + 1) (drop place events)) b (subst (Legal rows limit) whole known.legal))
-        ∙ ap (λ (l : List Event). count_of rows l b) (sym next)
+filter_none : (p : BundleNo → Bool) → ((b : BundleNo) → p b ≡ false) → (bs : List BundleNo) → filter p bs ≡ []
+filter_none p none [] = refl
+filter_none p none (b ∷ bs) = ap (λ t. if t then b ∷ filter p bs else filter p bs) (none b) ∙ filter_none p none bs
 
-    pub stays_along : (waiting : Bool) (count : ℕ) → waiting ≡ (not (list_any (is_take_of b) (take j (drop place events))) && stays_positive rows b (take place events) (take j (drop place events))) → count ≡ count_of rows (take place events ++ take (j + 1) (drop place events)) b → ((waiting && not (is_take_of b e)) && ltb 0 count) ≡ (not (list_any (is_take_of b) (take (j + 1) (drop place events))) && stays_positive rows b (take place events) (take (j + 1) (drop place events)))
-    unfolding h stays_positive
-    stays_along waiting count is counts =
-        let part = take j (drop place events) in
-        let more : take (j + 1) (drop place events) ≡ part ++ e ∷ [] = take_more (drop place events) j e lt ∙ ap (λ x. take j (drop place events) ++ x ∷ []) (sym here) in
-        ap (λ t. (t && not (is_take_of b e)) && ltb 0 count) is
-        ∙ ap (λ n. ((not (list_any (is_take_of b) part) && stays_positive rows b (take place events) part) && not (is_take_of b e)) && ltb 0 n) (counts ∙ ap (λ (l : List Event). count_of rows l b) next)
-        ∙ turned (not (list_any (is_take_of b) part)) (stays_positive rows b (take place events) part) (not (is_take_of b e)) (ltb 0 (count_of rows (h ++ e ∷ []) b))
-        ∙ ap (λ t. t && (stays_positive rows b (take place events) part && ltb 0 (count_of rows (h ++ e ∷ []) b))) (sym (none_push true (is_take_of b) part e))
-        ∙ ap (λ t. not (list_any (is_take_of b) (part ++ e ∷ [])) && t) (sym (each_point_push (λ g. ltb 0 (count_of rows g b)) (take place events) part e))
-        ∙ ap (λ (l : List Event). not (list_any (is_take_of b) l) && stays_positive rows b (take place events) l) (sym more)
-      where
-        turned : (n s t c : Bool) → (((n && s) && t) && c) ≡ ((n && t) && (s && c))
-        turned false s t c = refl
-        turned true true t c = refl
-        turned true false true c = refl
-        turned true false false c = refl
-
-  pub count_short : (place j : ℕ) (b : BundleNo) (count : ℕ) → count ≡ count_of rows (take place events ++ take j (drop place events)) b → count ≤ 1000000
-  count_short place j b count is =
-      omega (
-        arith,
-        is,
-        count_le rows (take place events ++ take j (drop place events)) b,
-        length-append (take place events) (take j (drop place events)),
-        length-take place events,
-        length-take j (drop place events),
-        length-drop place events,
-        known.short,
-      )
-
-  -- a bundle waits since a place
-  pub waits_at : (place : ℕ) (e : Event) (b : BundleNo) (before : Standing) (stays : Bool) → place < length events → e ≡ get_or events place e → IsStanding rows (take place events) b before → stays ≡ (not (list_any (is_take_of b) (drop (place + 1) events)) && stays_positive rows b (take (place + 1) events) (drop (place + 1) events)) → ((((is_load e && names needs b e) && not before.resident) && not before.fetched) && stays) ≡ waits rows b (take place events) e (drop (place + 1) events)
-  waits_at place e b before stays lt here stands is =
-      ap (λ t. ((t && not before.resident) && not before.fetched) && stays) (sym asks)
-      ∙ ap (λ t. ((asked && not t) && not before.fetched) && stays) stands.resident
-      ∙ ap (λ t. ((asked && not (is_resident rows (take place events) b)) && not t) && stays) stands.fetched
-      ∙ ap (λ t. ((asked && not (is_resident rows (take place events) b)) && not (is_fetched (take place events) b)) && t) is
-      ∙ assoc ((asked && not (is_resident rows (take place events) b)) && not (is_fetched (take place events) b)) (not (list_any (is_take_of b) (drop (place + 1) events))) (stays_positive rows b (take (place + 1) events) (drop (place + 1) events))
-      ∙ ap (λ (l : List Event). (((asked && not (is_resident rows (take place events) b)) && not (is_fetched (take place events) b)) && not (list_any (is_take_of b) (drop (place + 1) events))) && stays_positive rows b l (drop (place + 1) events)) parts.1
-    where
-      assoc : (a b c : Bool) → (a && (b && c)) ≡ ((a && b) && c)
-      assoc true b c = refl
-      assoc false b c = refl
-
-      parts : (events ≡ take place events ++ e ∷ drop (place + 1) events) × (take (place + 1) events ≡ take place events ++ e ∷ [])
-      parts = cut_next events place e lt here
-
-      asked : Bool
-      asked = is_in b (needs_of_event rows e)
-
-      asks : is_in b (needs_of_event rows e) ≡ (is_load e && names needs b e)
-      asks =
-          asks_step rows limit (take place events) e (drop (place + 1) events) b (subst (Legal rows limit) parts.0 known.legal)
-          ∙ ap (λ (n : List (List BundleNo)). is_load e && names n b e) (ap (needs_of_loads rows) (sym parts.0) ∙ sym known.paired)
+-- a list that has what a test picks keeps its first, whatever comes behind it
+head_kept : (p : BundleNo → Bool) (b : BundleNo) (bs rest : List BundleNo) → is_in b bs ≡ true → p b ≡ true → slice_get (filter p bs ++ rest) 0 ≡ slice_get (filter p bs) 0
+head_kept p b [] rest has picks = absurd (false≢true has)
+head_kept p b (c ∷ bs) rest has picks = at (p c) refl (λ later. head_kept p b bs rest later picks)
+  where
+    at : (t : Bool) → p c ≡ t → (is_in b bs ≡ true → slice_get (filter p bs ++ rest) 0 ≡ slice_get (filter p bs) 0) → slice_get ((if t then c ∷ filter p bs else filter p bs) ++ rest) 0 ≡ slice_get (if t then c ∷ filter p bs else filter p bs) 0
+    at true is further = refl
+    at false is further = elim (or_cases (eqb c.0 b.0) (is_in b bs) has) [
+      | inl here ↦ absurd (false≢true (sym is ∙ ap p (same_bundle c b here) ∙ picks))
+      | inr later ↦ further later
+    ]
 
 -- what begins to wait at each place
 abbrev pub waiting_at : Rows → List Event → Event → List Event → List BundleNo
 waiting_at rows p e a = filter (λ b. waits rows b p e a) (needs_of_event rows e)
 
-pub queue_first : (rows : Rows) (h : List Event) → slice_get (over_events (waiting_at rows) [] h) 0 ≡ slice_get (queue rows h) 0
-unfolding queue
-queue_first rows h = sym (head-distinct (over_events (waiting_at rows) [] h))
+module _ (rows : Rows) where
+  nothing_waits : (before h : List Event) → ((b : BundleNo) → first_place (waits rows b) before h ≡ None) → over_events (waiting_at rows) before h ≡ []
+  nothing_waits before [] none = refl
+  nothing_waits before (e ∷ h) none =
+      ap (λ (l : List BundleNo). l ++ over_events (waiting_at rows) (before ++ e ∷ []) h) (filter_none (λ b. waits rows b before e h) (λ b. here (waits rows b before e h) _ (none b)) (needs_of_event rows e))
+      ∙ nothing_waits (before ++ e ∷ []) h (λ b. later (waits rows b before e h) _ (none b))
+    where
+      here : (t : Bool) (o : Option ℕ) → (if t then Some (length before) else o) ≡ None → t ≡ false
+      here true o is = cc
+      here false o is = refl
 
-head_found : (xs ys : List BundleNo) (b : BundleNo) → slice_get xs 0 ≡ Some b → slice_get (xs ++ ys) 0 ≡ Some b
-head_found [] ys b is = cc
-head_found (x ∷ xs) ys b is = is
+      later : (t : Bool) (o : Option ℕ) → (if t then Some (length before) else o) ≡ None → o ≡ None
+      later true o is = cc
+      later false o is = is
 
-head_skipped : (xs ys : List BundleNo) → slice_get xs 0 ≡ None → slice_get (xs ++ ys) 0 ≡ slice_get ys 0
-head_skipped [] ys is = refl
-head_skipped (x ∷ xs) ys is = cc
+  -- the first that begins to wait is one of those that begin at the earliest place
+  first_waits : (b : BundleNo) (place : ℕ) (at : Event) (before h : List Event) → first_place (waits rows b) before h ≡ Some place → ((c : BundleNo) (q : ℕ) → first_place (waits rows c) before h ≡ Some q → place ≤ q) → slice_get (before ++ h) place ≡ Some at → slice_get (over_events (waiting_at rows) before h) 0 ≡ slice_get (filter (λ c. is_place place (first_place (waits rows c) before h)) (needs_of_event rows at)) 0
+  first_waits b place at before [] is least here = cc
+  first_waits b place at before (e ∷ h) is least here = elim (cases_eq place (length before)) [
+    | inl now ↦ at_once now
+    | inr not_now ↦ later not_now (first_waits b place at (before ++ e ∷ []) h)
+  ]
+    where
+      w : BundleNo → Bool
+      w c = waits rows c before e h
 
-module _ (rows : Rows) (events : List Event) (i : ℕ) (e : Event) (lt : i < length events) (here : e ≡ get_or events i e) where
-  opened_here : over_events (waiting_at rows) (take i events) (drop i events) ≡ waiting_at rows (take i events) e (drop (i + 1) events) ++ over_events (waiting_at rows) (take (i + 1) events) (drop (i + 1) events)
-  opened_here =
-      ap (over_events (waiting_at rows) (take i events)) (drop_more events i e lt ∙ ap (λ x. x ∷ drop (i + 1) events) (sym here))
-      ∙ ap (λ (l : List Event). waiting_at rows (take i events) e (drop (i + 1) events) ++ over_events (waiting_at rows) l (drop (i + 1) events)) (sym (cut_next events i e lt here).1)
+      rest : BundleNo → Option ℕ
+      rest c = first_place (waits rows c) (before ++ e ∷ []) h
 
-  pub queue_found : (b : BundleNo) → slice_get (waiting_at rows (take i events) e (drop (i + 1) events)) 0 ≡ Some b → slice_get (over_events (waiting_at rows) (take i events) (drop i events)) 0 ≡ Some b
-  queue_found b is =
-      ap (λ (l : List BundleNo). slice_get l 0) opened_here
-      ∙ head_found (waiting_at rows (take i events) e (drop (i + 1) events)) (over_events (waiting_at rows) (take (i + 1) events) (drop (i + 1) events)) b is
+      slice_at : (xs : List Event) (x : Event) (ys : List Event) → slice_get (xs ++ x ∷ ys) (length xs) ≡ Some x
+      slice_at [] x ys = refl
+      slice_at (y ∷ xs) x ys = slice_at xs x ys
 
-  pub queue_skipped : slice_get (waiting_at rows (take i events) e (drop (i + 1) events)) 0 ≡ None → slice_get (over_events (waiting_at rows) (take i events) (drop i events)) 0 ≡ slice_get (over_events (waiting_at rows) (take (i + 1) events) (drop (i + 1) events)) 0
-  queue_skipped is =
-      ap (λ (l : List BundleNo). slice_get l 0) opened_here
-      ∙ head_skipped (waiting_at rows (take i events) e (drop (i + 1) events)) (over_events (waiting_at rows) (take (i + 1) events) (drop (i + 1) events)) is
+      past : (c : BundleNo) (q : ℕ) → rest c ≡ Some q → length before + 1 ≤ q
+      past c q found = omega (arith, (place_within (waits rows c) (before ++ e ∷ []) h q found).0, length-append before (e ∷ []))
+
+      at_once : place ≡ length before → slice_get (over_events (waiting_at rows) before (e ∷ h)) 0 ≡ slice_get (filter (λ c. is_place place (first_place (waits rows c) before (e ∷ h))) (needs_of_event rows at)) 0
+      at_once now =
+          head_kept w b (needs_of_event rows e) (over_events (waiting_at rows) (before ++ e ∷ []) h) (waits_asked rows b before e h waits_now) waits_now
+          ∙ ap (λ (l : List BundleNo). slice_get l 0) (filter_agree w (λ c. is_place place (first_place (waits rows c) before (e ∷ h))) (λ c. agrees c (w c) (rest c) refl) (needs_of_event rows e))
+          ∙ ap (λ x. slice_get (filter (λ c. is_place place (first_place (waits rows c) before (e ∷ h))) (needs_of_event rows x)) 0) same
+        where
+          same : e ≡ at
+          same = let both : Some e ≡ Some at = sym (slice_at before e h) ∙ ap (slice_get (before ++ e ∷ h)) (sym now) ∙ here in cc
+
+          it_waits : (t : Bool) → (if t then Some (length before) else rest b) ≡ Some place → t ≡ true
+          it_waits true given = refl
+          it_waits false given = absurd (omega (arith, past b place given))
+
+          waits_now : w b ≡ true
+          waits_now = it_waits (w b) is
+
+          agrees : (c : BundleNo) (t : Bool) (o : Option ℕ) → rest c ≡ o → t ≡ is_place place (if t then Some (length before) else o)
+          agrees c true o found = sym (eq-eqb (length before) place (sym now))
+          agrees c false None found = refl
+          agrees c false (Some q) found = let le : length before + 1 ≤ q = past c q found in sym (ne_eqb q place (λ same. omega arith))
+
+      later : (place ≡ length before → ⊥) → (first_place (waits rows b) (before ++ e ∷ []) h ≡ Some place → ((c : BundleNo) (q : ℕ) → rest c ≡ Some q → place ≤ q) → slice_get ((before ++ e ∷ []) ++ h) place ≡ Some at → slice_get (over_events (waiting_at rows) (before ++ e ∷ []) h) 0 ≡ slice_get (filter (λ c. is_place place (rest c)) (needs_of_event rows at)) 0) → slice_get (over_events (waiting_at rows) before (e ∷ h)) 0 ≡ slice_get (filter (λ c. is_place place (first_place (waits rows c) before (e ∷ h))) (needs_of_event rows at)) 0
+      later not_now further =
+          ap (λ (l : List BundleNo). slice_get (l ++ over_events (waiting_at rows) (before ++ e ∷ []) h) 0) (filter_none w none (needs_of_event rows e))
+          ∙ further (sym (skipped b) ∙ is) (λ c q found. least c q (skipped c ∙ found)) (ap (λ (l : List Event). slice_get l place) (append_assoc before (e ∷ []) h) ∙ here)
+          ∙ ap (λ (l : List BundleNo). slice_get l 0) (filter_agree (λ c. is_place place (rest c)) (λ c. is_place place (first_place (waits rows c) before (e ∷ h))) (λ c. ap (is_place place) (sym (skipped c))) (needs_of_event rows at))
+        where
+          no_wait : (c : BundleNo) (t : Bool) → first_place (waits rows c) before (e ∷ h) ≡ (if t then Some (length before) else rest c) → t ≡ false
+          no_wait c true found = let le : length before ≤ place = (place_within (waits rows b) before (e ∷ h) place is).0 in absurd (not_now (omega (arith, least c (length before) found)))
+          no_wait c false found = refl
+
+          none : (c : BundleNo) → w c ≡ false
+          none c = no_wait c (w c) refl
+
+          skipped : (c : BundleNo) → first_place (waits rows c) before (e ∷ h) ≡ rest c
+          skipped c = ap (λ t. if t then Some (length before) else rest c) (none c)
+
+  module _ (sound : Sound rows) (h : List Event) where
+    -- whoever waits is one of the rows' bundles
+    waits_below : (b : BundleNo) (q : ℕ) → since_of rows h b ≡ Some q → b.0 < length rows.bundles
+    waits_below b q is = queued_below rows sound h b (sym (since_queued rows h b) ∙ ap is_some is)
+
+    pub queue_none : IsEarliest (λ n. since_of rows h (record { 0 = n })) (length rows.bundles) None → slice_get (queue rows h) 0 ≡ None
+    unfolding since_of queue
+    queue_none none =
+        head-distinct (over_events (waiting_at rows) [] h)
+        ∙ ap (λ (l : List BundleNo). slice_get l 0) (nothing_waits [] h (λ b. at b (since_of rows h b) refl))
+      where
+        at : (b : BundleNo) (o : Option ℕ) → since_of rows h b ≡ o → since_of rows h b ≡ None
+        at b None is = is
+        at b (Some q) is = none b.0 (waits_below b q is)
+
+    pub queue_some : (place : ℕ) → IsEarliest (λ n. since_of rows h (record { 0 = n })) (length rows.bundles) (Some place) → slice_get (filter (λ b. is_place place (since_of rows h b)) (asked_at rows h place)) 0 ≡ slice_get (queue rows h) 0
+    unfolding since_of queue
+    queue_some place is = sym (by (slice_get h place) refl) ∙ sym (head-distinct (over_events (waiting_at rows) [] h))
+      where
+        by : (o : Option Event) → slice_get h place ≡ o → slice_get (over_events (waiting_at rows) [] h) 0 ≡ slice_get (filter (λ b. is_place place (since_of rows h b)) (option_map_or (needs_of_event rows) o [])) 0
+        by (Some at) found = first_waits (record { 0 = is.0.0 }) place at [] h is.0.2 (λ c q later. is.1 c.0 q (waits_below c q later) later) found
+        by None found =
+            let bounds = place_within (waits rows (record { 0 = is.0.0 })) [] h place is.0.2 in
+            let lt : place < length h = omega (arith, bounds.1) in
+            let nothing : None ≡ Some (get_or h place Close) = sym found ∙ slice_get-get_or h place Close lt in
+            cc

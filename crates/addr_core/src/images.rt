@@ -1,6 +1,7 @@
 // The images that are kept: a place for each bundle, filled exactly where it is resident.
-ghost use Rattle.std.specs.Prelude.{◌≡◌, ◌+◌, ◌<◌, ◌≤◌, ◌^◌, ◌++◌, ◌∷◌, [], Option, Some, None, length, slice_set, if◌then◌else◌, replicate, vec_len, vec_capacity, IfOk};
+ghost use Rattle.std.specs.Prelude.{◌≡◌, ◌+◌, ◌<◌, ◌≤◌, ◌^◌, ◌++◌, ◌∷◌, [], Some, None, length, slice_set, if◌then◌else◌, replicate, vec_len, vec_capacity, IfOk};
 ghost use Rattle.addr_core.specs.Machine.{images_left};
+ghost use Rattle.addr_history.specs.Places.{is_resident};
 
 use crate::standing::Past;
 use addr_base::{BundleNo, NoMemory};
@@ -17,20 +18,20 @@ pub fn no_images<I: Drop>(alloc: Global, count: usize) -> Result<Vec<Option<I>>,
     Ok(images)
 }
 
-/// Lets go of each image whose bundle isn't resident.
+/// Lets go of each image whose bundle isn't resident: a walk for each image that is there.
 pub fn keep_resident<I: Drop>(past: &Past, images: &mut [Option<I>])
     requires { length images.old < 2 ^ 32 }
     ensures { images.new ≡ images_left past.now.locator.now past.now.events.now images.old }
 {
     for n in 0..images.len() {
-        keep_if(past.is_resident(BundleNo(n as u32)), &mut images[n]);
+        keep_if_resident(past, BundleNo(n as u32), &mut images[n]);
     }
 }
 
-fn keep_if<I: Drop>(resident: bool, image: &mut Option<I>)
-    ensures { image.new ≡ (if resident then image.old else None) }
+fn keep_if_resident<I: Drop>(past: &Past, b: BundleNo, image: &mut Option<I>)
+    ensures { image.new ≡ (if is_resident past.now.locator.now past.now.events.now b then image.old else None) }
 {
-    if !resident {
+    if image.is_some() && !past.is_resident(b) {
         *image = None;
     }
 }

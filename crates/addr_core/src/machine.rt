@@ -1,24 +1,22 @@
 // The machine. Every answer is read off the journal anew, by walks that take no memory; a change is one event pushed
 // into room that was taken when the machine was opened.
-ghost use Rattle.std.specs.Prelude.{◌≡◌, ◌≤◌, ◌<◌, ◌^◌, ◌++◌, ◌∷◌, [], List, true, false, length, Option, IfOk, IfSome, slice_get, Ok};
-ghost use Rattle.addr_core.specs.Answers.{load_reply, release_reply, release_adds, status_reply, take_reply, take_adds, done_reply, done_adds, fail_reply, fail_adds, close_reply, close_adds, count_reply};
-ghost use Rattle.addr_core.specs.declared.event.Event.TheVariants.{Load, Release, Done};
-ghost use Rattle.addr_core.specs.declared.answers.Settled.TheVariants.{Kept};
-ghost use Rattle.addr_core.specs.Events.{needs_of};
-ghost use Rattle.addr_core.specs.Legal.{Legal, IsAnswer, IsQuiet};
-ghost use Rattle.addr_core.specs.Places.{is_fetched_by};
-ghost use Rattle.addr_core.specs.Counts.{count_of, is_unreleased, loads_of};
+ghost use Rattle.std.specs.Prelude.{◌≡◌, ◌≤◌, ◌<◌, ◌^◌, ◌∷◌, [], true, length, IfOk, IfSome, slice_get, Ok};
+ghost use Rattle.addr_history.specs.Answers.{load_reply, release_reply, release_adds, status_reply, take_reply, take_adds, done_reply, done_adds, fail_reply, fail_adds, close_reply, close_adds, count_reply};
+ghost use Rattle.addr_history.specs.declared.event.Event.TheVariants.{Load, Release, Done};
+ghost use Rattle.addr_history.specs.declared.answers.Settled.TheVariants.{Kept};
+ghost use Rattle.addr_history.specs.Events.{needs_of};
+ghost use Rattle.addr_history.specs.Legal.{Legal, IsAnswer};
+ghost use Rattle.addr_history.specs.Places.{is_fetched_by};
+ghost use Rattle.addr_history.specs.Counts.{count_of, is_unreleased, loads_of};
+ghost use Rattle.addr_core.specs.Walk.{IsQuiet};
 ghost use Rattle.addr_core.specs.Machine.{Machine, fresh, grown, with_kept, Loads, HasImages, ImagesFit};
 
-use crate::answers::{BundleState, Next, NoHandle, NotTaken, OpStatus, Settled};
-use crate::ask::Ask;
-use crate::error::LoadErr;
-use crate::event::Event;
 use crate::images::{keep_resident, no_images, push_within, put};
 use crate::past::{is_closed, is_fetched_by, is_unreleased};
 use crate::prepare::prepare;
 use crate::standing::Past;
 use addr_base::{BundleNo, Cause, Image, Items, NoMemory, OpId};
+use addr_history::{Ask, BundleState, Event, LoadErr, Next, NoHandle, NotTaken, OpStatus, Settled};
 use addr_locate::Locator;
 use std::alloc::Global;
 use std::marker::Model;
@@ -124,7 +122,7 @@ impl<I: Image + Drop> Core<I> {
     }
 
     /// Gives an operation back. A bundle whose count falls to zero loses its image or its place in the queue.
-    #[tactic(auto, unfolding(crate::specs::Answers::release_reply, crate::specs::Answers::release_adds))]
+    #[tactic(auto, unfolding(addr_history::specs::Answers::release_reply, addr_history::specs::Answers::release_adds))]
     pub fn release(&mut self, caller: u32, op: OpId) -> Result<(), NoHandle>
         ensures reply { result ≡ release_reply self.old.history op }
         ensures machine { self.new ≡ grown self.old (release_adds self.old.history caller op) }
@@ -176,7 +174,7 @@ impl<I: Image + Drop> Core<I> {
 
     /// Ends a fetch with the bundle's image. It comes back where that worker doesn't fetch the bundle, and is let go
     /// where no operation needs the bundle any more.
-    #[tactic(auto, unfolding(crate::specs::Answers::done_reply, crate::specs::Answers::done_adds))]
+    #[tactic(auto, unfolding(addr_history::specs::Answers::done_reply, addr_history::specs::Answers::done_adds))]
     pub fn done(&mut self, worker: u32, b: BundleNo, image: I) -> Result<Settled, I>
         requires { IfSome (slice_get self.old.rows.bundles b.0) (λ row. I.fits image row.size row.digest) }
         ensures reply { result ≡ done_reply self.old.rows self.old.history worker b image }
@@ -204,7 +202,7 @@ impl<I: Image + Drop> Core<I> {
     }
 
     /// Ends a fetch without an image.
-    #[tactic(auto, unfolding(crate::specs::Answers::fail_reply, crate::specs::Answers::fail_adds))]
+    #[tactic(auto, unfolding(addr_history::specs::Answers::fail_reply, addr_history::specs::Answers::fail_adds))]
     pub fn fail(&mut self, worker: u32, b: BundleNo, cause: Cause) -> Result<(), NotTaken>
         ensures reply { result ≡ fail_reply self.old.history worker b }
         ensures machine { self.new ≡ grown self.old (fail_adds self.old.history worker b cause) }
@@ -217,7 +215,7 @@ impl<I: Image + Drop> Core<I> {
     }
 
     /// Accepts no load from now on. False where it was closed before.
-    #[tactic(auto, unfolding(crate::specs::Answers::close_reply, crate::specs::Answers::close_adds))]
+    #[tactic(auto, unfolding(addr_history::specs::Answers::close_reply, addr_history::specs::Answers::close_adds))]
     pub fn close(&mut self) -> bool
         ensures reply { result ≡ close_reply self.old.history }
         ensures machine { self.new ≡ grown self.old (close_adds self.old.history) }
@@ -236,7 +234,7 @@ impl<I: Image + Drop> Core<I> {
     }
 }
 
-#[tactic(auto, unfolding(crate::specs::Answers::status_reply, crate::specs::Counts::is_unreleased))]
+#[tactic(auto, unfolding(addr_history::specs::Answers::status_reply, addr_history::specs::Counts::is_unreleased))]
 /// How far an operation is that isn't released.
 fn status(past: &Past, op: OpId) -> Result<OpStatus, NoHandle>
     ensures { result ≡ status_reply past.now.locator.now past.now.events.now op }
@@ -248,7 +246,7 @@ fn status(past: &Past, op: OpId) -> Result<OpStatus, NoHandle>
     }
 }
 
-#[tactic(auto, unfolding(crate::specs::Answers::count_reply, crate::specs::Places::state_of))]
+#[tactic(auto, unfolding(addr_history::specs::Answers::count_reply, addr_history::specs::Places::state_of))]
 /// The count and the place of a bundle, where there is one with that number.
 fn count(past: &Past, b: BundleNo) -> Option<(u32, BundleState)>
     ensures { result ≡ count_reply past.now.locator.now past.now.events.now b }
@@ -262,7 +260,7 @@ fn count(past: &Past, b: BundleNo) -> Option<(u32, BundleState)>
 }
 
 /// What a worker is to do next.
-#[tactic(auto, unfolding(crate::specs::Answers::take_reply))]
+#[tactic(auto, unfolding(addr_history::specs::Answers::take_reply))]
 fn next(past: &Past) -> Next
     ensures { result ≡ take_reply past.now.locator.now past.now.events.now }
 {

@@ -1,16 +1,15 @@
 // All of a load that may fail, and takes memory: which refusal comes first, and which bundles are needed.
-ghost use Rattle.std.specs.Prelude.{◌≡◌, ◌+◌, ◌<◌, ◌^◌, ◌&&◌, not, nat_lt, length, take, if◌then◌else◌, IfOk, IfSome};
+ghost use Rattle.std.specs.Prelude.{◌≡◌, ◌+◌, ◌<◌, ◌^◌, not, nat_lt, length, take, if◌then◌else◌, IfOk, IfSome};
 ghost use Rattle.std.specs.List.{list_any, position};
-ghost use Rattle.addr_locate.specs.Merge.{is_match, merged, deps_of};
-ghost use Rattle.addr_core.specs.Events.{needs_of};
-ghost use Rattle.addr_core.specs.Answers.{is_none, first_missing};
+ghost use Rattle.addr_locate.specs.Merge.{is_match, merged};
+ghost use Rattle.addr_history.specs.Events.{needs_of};
+ghost use Rattle.addr_history.specs.Answers.{is_none, first_missing};
 ghost use Rattle.addr_core.specs.Prepare.{Prepares};
 
-use crate::ask::Ask;
-use crate::error::LoadErr;
 use crate::past::is_closed;
 use crate::standing::Past;
 use addr_base::{BundleNo, Items, KeyNo, NoMemory, RowNo};
+use addr_history::{Ask, LoadErr};
 use addr_locate::{AssetRow, Kind, Locator, is_match};
 use std::alloc::Global;
 
@@ -28,7 +27,7 @@ fn missing_place(assets: &[AssetRow], keys: &[Option<KeyNo>], kind: Kind) -> Opt
 }
 
 /// The place of the first key that no row of the asked kind has.
-#[tactic(auto, unfolding(crate::specs::Answers::first_missing))]
+#[tactic(auto, unfolding(addr_history::specs::Answers::first_missing))]
 fn first_missing(locator: &Locator, ask: &Ask) -> Option<u32>
     requires { length ask.now.keys < 2 ^ 32 }
     ensures { result ≡ first_missing locator.now ask.now }

@@ -1,14 +1,14 @@
 // How many events are owed and how many a load would need. A walk for each bundle.
-ghost use Rattle.std.specs.Prelude.{◌≡◌, ◌+◌, ◌*◌, ◌<◌, ◌^◌, ℕ, Bool, not, length, if◌then◌else◌};
+ghost use Rattle.std.specs.Prelude.{◌≡◌, ◌+◌, ◌*◌, ◌<◌, ◌^◌, length, is_some, if◌then◌else◌};
 ghost use Rattle.std.specs.List.{count_by};
-ghost use Rattle.addr_core.specs.Counts.{is_closed};
-ghost use Rattle.addr_core.specs.Places.{is_absent, is_queued, is_fetched, bundles_of};
-ghost use Rattle.addr_core.specs.Answers.{reserved};
+ghost use Rattle.addr_history.specs.Counts.{is_closed};
+ghost use Rattle.addr_history.specs.Places.{is_absent, is_queued, is_fetched, bundles_of};
+ghost use Rattle.addr_history.specs.Answers.{reserved};
 
-use crate::event::Event;
 use crate::past::is_closed;
 use crate::standing::{Past, Standing};
 use addr_base::BundleNo;
+use addr_history::Event;
 
 /// How many bundles are queued, and how many are being fetched.
 #[derive(Clone, Copy)]
@@ -33,11 +33,11 @@ impl Totals {
     fn with(self, standing: Standing) -> Totals
         requires queued { self.queued < 2 ^ 32 }
         requires fetched { self.fetched < 2 ^ 32 }
-        ensures queued { result.queued ≡ self.queued + (if standing.queued then 1 else 0) }
+        ensures queued { result.queued ≡ self.queued + (if is_some standing.since then 1 else 0) }
         ensures fetched { result.fetched ≡ self.fetched + (if standing.fetched then 1 else 0) }
     {
         Totals {
-            queued: self.queued + one_if(standing.queued),
+            queued: self.queued + one_if(standing.since.is_some()),
             fetched: self.fetched + one_if(standing.fetched),
         }
     }

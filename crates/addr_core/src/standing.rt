@@ -1,22 +1,20 @@
-// Where one bundle stands after a part of the journal: one walk that keeps its count along, and takes no memory.
-ghost use Rattle.std.specs.Prelude.{◌≡◌, ◌==◌, ◌&&◌, ◌||◌, ◌+◌, ◌<◌, ◌≤◌, ◌^◌, not, length, take, if◌then◌else◌};
-ghost use Rattle.addr_core.specs.declared.answers.BundleState.TheVariants.{Resident, Fetching, Queued, Absent};
-ghost use Rattle.std.specs.List.{list_any};
-ghost use Rattle.addr_core.specs.Events.{is_in, is_load, is_load_of, is_release_of, is_take_of, is_take_by, is_done_of, is_end_of, is_close};
-ghost use Rattle.addr_core.specs.Walk.{needs_at, names, counted, stepped, start, IsStanding, Known};
+// Where one bundle stands: one walk over the journal that keeps its count along, and takes no memory.
+ghost use Rattle.std.specs.Prelude.{◌≡◌, ◌+◌, ◌<◌, ◌^◌, is_some, if◌then◌else◌};
+ghost use Rattle.addr_history.specs.declared.answers.BundleState.TheVariants.{Resident, Fetching, Queued, Absent};
+ghost use Rattle.addr_history.specs.Events.{is_in};
+ghost use Rattle.addr_core.specs.Walk.{needs_at, names, counted, stepped, start, waits_after, is_place, IsStanding, Known};
 
-use crate::answers::BundleState;
-use crate::event::Event;
 use addr_base::{BundleNo, Items, OpId};
+use addr_history::{BundleState, Event};
 use addr_locate::Locator;
 
-/// A bundle's count, and whether it is resident, being fetched, queued.
+/// A bundle's count, whether it is resident, whether it is being fetched, and since which place of the journal it is queued.
 #[derive(Clone, Copy)]
 pub struct Standing {
     pub count: u32,
     pub resident: bool,
     pub fetched: bool,
-    pub queued: bool,
+    pub since: Option<usize>,
 }
 
 /// The journal, and beside it the bundles of each operation by its number, so that no question takes memory.
@@ -70,49 +68,6 @@ pub fn counted(e: &Event, named: bool, count: u32) -> u32
     }
 }
 
-pub fn is_load(e: &Event) -> bool
-    ensures { result ≡ is_load e.now }
-{
-    matches!(e, Event::Load { .. })
-}
-
-pub fn is_take_of(b: BundleNo, e: &Event) -> bool
-    ensures { result ≡ is_take_of b e.now }
-{
-    match e {
-        Event::Take { b: taken, .. } => taken.0 == b.0,
-        _ => false,
-    }
-}
-
-pub fn is_take_by(b: BundleNo, by: u32, e: &Event) -> bool
-    ensures { result ≡ is_take_by b by e.now }
-{
-    match e {
-        Event::Take { b: taken, worker } => taken.0 == b.0 && *worker == by,
-        _ => false,
-    }
-}
-
-fn is_done_of(b: BundleNo, e: &Event) -> bool
-    ensures { result ≡ is_done_of b e.now }
-{
-    match e {
-        Event::Done { b: done, .. } => done.0 == b.0,
-        _ => false,
-    }
-}
-
-pub fn is_end_of(b: BundleNo, e: &Event) -> bool
-    ensures { result ≡ is_end_of b e.now }
-{
-    match e {
-        Event::Done { b: ended, .. } => ended.0 == b.0,
-        Event::Fail { b: ended, .. } => ended.0 == b.0,
-        _ => false,
-    }
-}
-
 impl Standing {
     /// Before the first event.
     fn start() -> Standing
@@ -122,50 +77,68 @@ impl Standing {
             count: 0,
             resident: false,
             fetched: false,
-            queued: false,
+            since: None,
         }
     }
 
     /// The place that such a standing is.
     pub fn state(self) -> BundleState
-        ensures { result ≡ (if self.resident then Resident else if self.fetched then Fetching else if self.queued then Queued else Absent) }
+        ensures { result ≡ (if self.resident then Resident else if self.fetched then Fetching else if is_some self.since then Queued else Absent) }
     {
         if self.resident {
             BundleState::Resident
         } else if self.fetched {
             BundleState::Fetching
-        } else if self.queued {
+        } else if self.since.is_some() {
             BundleState::Queued
         } else {
             BundleState::Absent
         }
     }
 
-    /// After one event more, which names the bundle or not.
-    fn after(self, e: &Event, b: BundleNo, named: bool) -> Standing
+    /// Whether the bundle is queued since that place.
+    pub fn is_since(self, place: usize) -> bool
+        ensures { result ≡ is_place place self.since }
+    {
+        match self.since {
+            Some(since) => since == place,
+            None => false,
+        }
+    }
+
+    /// Since which place the bundle waits after one event more, while its count is positive.
+    fn waits_after(self, place: usize, e: &Event, b: BundleNo, named: bool) -> Option<usize>
+        ensures { result ≡ waits_after self place e.now b named }
+    {
+        let begins = e.is_load() && named && !self.resident && !self.fetched;
+        let kept = if e.is_take_of(b) { None } else { self.since };
+        kept.or(if begins { Some(place) } else { None })
+    }
+
+    /// After one event more, at that place, which names the bundle or not.
+    fn after(self, place: usize, e: &Event, b: BundleNo, named: bool) -> Standing
         requires { self.count + 1 < 2 ^ 32 }
-        ensures { result ≡ stepped self e.now b named }
+        ensures { result ≡ stepped self place e.now b named }
     {
         let count = counted(e, named, self.count);
-        let begins = is_load(e) && named && !self.resident && !self.fetched;
+        let waits = self.waits_after(place, e, b, named);
         Standing {
             count,
-            resident: (self.resident || is_done_of(b, e)) && count > 0,
-            fetched: self.fetched && !is_end_of(b, e) || is_take_of(b, e),
-            queued: (self.queued && !is_take_of(b, e) || begins) && count > 0,
+            resident: (self.resident || e.is_done_of(b)) && count > 0,
+            fetched: self.fetched && !e.is_end_of(b) || e.is_take_of(b),
+            since: if count > 0 { waits } else { None },
         }
     }
 }
 
 impl Past<'_> {
-    /// Where the bundle stands after the first events of the journal.
-    pub fn standing_at(&self, places: usize, b: BundleNo) -> Standing
-        requires { places ≤ length self.now.events.now }
-        ensures { IsStanding self.now.locator.now (take places self.now.events.now) b result }
+    /// Where the bundle stands now: one walk over the journal.
+    pub fn standing(&self, b: BundleNo) -> Standing
+        ensures { IsStanding self.now.locator.now self.now.events.now b result }
     {
         let mut standing = Standing::start();
-        for e in &self.events[..places] {
-            standing = standing.after(e, b, names(self.needs, b, e));
+        for (place, e) in self.events.iter().enumerate() {
+            standing = standing.after(place, e, b, names(self.needs, b, e));
         }
         standing
     }

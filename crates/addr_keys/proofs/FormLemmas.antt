@@ -4,6 +4,7 @@ use Rattle.std.proofs.Common.{◌≡◌, ◌≤◌, Bool, true, false, cond, Lis
 use Rattle.std.specs.Prelude.{IsUtf8, chars}
 use Rattle.std.specs.List.{flat_map}
 use Rattle.std.specs.Char.Escape.{encode_utf16}
+use Rattle.std.specs.Int.{w32, to_le_bytes}
 use Rattle.std.proofs.str.Utf16.{one_unit, two_units}
 use Rattle.std.proofs.lemmas.Bool.{cases_lt}
 use Rattle.std.proofs.lemmas.Str.{chars-IsAscii}
@@ -74,6 +75,22 @@ is_written_form (keys.I32 z) form is = (is.0, refl)
 is_written_form (keys.Hash text) form is = (is.0, refl)
 is_written_form (keys.TypeId text) form is = (is.0, refl)
 is_written_form (keys.Json assembly class text) form is = (is.0, is.1, is.2, refl)
+
+-- no form is shorter than the written one
+pub written_shortest : (key : Key) (form : List ℕ) → IsForm key form → length (key_text key) ≤ length form
+unfolding key_text
+written_shortest (keys.Text text) form (inl is) = subst (λ (t : Bool). length (cond t (0 ∷ long text) (1 ∷ long (utf16_bytes text))) ≤ length form) (sym is.0) (omega (arith, ap length is.2))
+written_shortest (keys.Text text) form (inr is) = by_test (is_ascii text) refl
+  where
+    by_test : (t : Bool) → is_ascii text ≡ t → length (cond t (0 ∷ long text) (1 ∷ long (utf16_bytes text))) ≤ length form
+    by_test true ascii = omega (arith, ap length is.1, ascii_shorter text ascii, length-append (to_le_bytes w32 (length text)) text, length-append (to_le_bytes w32 (length (utf16_bytes text))) (utf16_bytes text))
+    by_test false ascii = omega (arith, ap length is.1)
+written_shortest (keys.U16 n) form is = omega (arith, ap length is.1)
+written_shortest (keys.U32 n) form is = omega (arith, ap length is.1)
+written_shortest (keys.I32 z) form is = omega (arith, ap length is.1)
+written_shortest (keys.Hash text) form is = omega (arith, ap length is.1)
+written_shortest (keys.TypeId text) form is = omega (arith, ap length is.1)
+written_shortest (keys.Json assembly class text) form is = omega (arith, ap length is.3)
 
 -- one form belongs to one key
 pub one_key : (a b : Key) (form : List ℕ) → IsForm a form → IsForm b form → a ≡ b

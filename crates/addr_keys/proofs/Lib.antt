@@ -6,3 +6,4 @@ pub mod KeyLemmas
 pub mod Growth
 pub mod UnitLemmas
 pub mod FormLemmas
+pub mod PlaceLemmas

@@ -1,8 +1,13 @@
 pub mod ElementLemmas
+pub mod EvaluatedLemmas
 pub mod FieldLemmas
 pub mod FoundLemmas
 pub mod ListFieldLemmas
+pub mod LookupLemmas
 pub mod NumberLemmas
+pub mod OrderLemmas
 pub mod PlainLaws
 pub mod PlainLemmas
+pub mod PlainTextLemmas
+pub mod RepeatLemmas
 pub mod TextLemmas

@@ -22,7 +22,7 @@ or_true true = refl
 or_true false = refl
 
 -- one more text, put to those kept once
-bytes_eq-sym : (t u : List ℕ) → bytes_eq t u ≡ bytes_eq u t
+pub bytes_eq-sym : (t u : List ℕ) → bytes_eq t u ≡ bytes_eq u t
 bytes_eq-sym t u = same_from_decides (bytes_eq t u) (bytes_eq u t) (bytes_eq-Decides t u) ((λ e. sym ((bytes_eq-Decides u t).0 e)), (λ e. (bytes_eq-Decides u t).1 (sym e)))
 
 texts_once-snoc : (ts : List (List ℕ)) (t : List ℕ) → texts_once (ts ++ t ∷ []) ≡ texts_once ts ++ cond (list_any (λ u. bytes_eq u t) ts) [] (t ∷ [])
@@ -35,11 +35,11 @@ texts_once-snoc (x ∷ xs) t = rw (texts_once-snoc xs t, filter-append) (by_test
     by_tests false true e f = let turned : bytes_eq t x ≡ true = bytes_eq-sym t x ∙ f in rw (e, f, turned)
     by_tests false false e f = let turned : bytes_eq t x ≡ false = bytes_eq-sym t x ∙ f in rw (e, f, turned)
 
-pub text_put : (seen known : List (List ℕ)) (t : List ℕ) → known ≡ texts_once seen → list_any (λ u. bytes_eq u t) known ≡ false → known ++ t ∷ [] ≡ texts_once (seen ++ t ∷ [])
-text_put seen known t same new = let missing : list_any (λ u. bytes_eq u t) seen ≡ false = sym (ap (list_any (λ u. bytes_eq u t)) same ∙ any-texts_once t seen) ∙ new in rw (texts_once-snoc seen t, missing, same)
+pub text_put : (seen known : List (List ℕ)) (t : List ℕ) → known ≡ texts_once seen → list_any (λ u. bytes_eq u t) seen ≡ false → known ++ t ∷ [] ≡ texts_once (seen ++ t ∷ [])
+text_put seen known t same missing = rw (texts_once-snoc seen t, missing, same)
 
-pub text_pass : (seen known : List (List ℕ)) (t : List ℕ) → known ≡ texts_once seen → list_any (λ u. bytes_eq u t) known ≡ true → known ≡ texts_once (seen ++ t ∷ [])
-text_pass seen known t same there = let found : list_any (λ u. bytes_eq u t) seen ≡ true = sym (ap (list_any (λ u. bytes_eq u t)) same ∙ any-texts_once t seen) ∙ there in rw (texts_once-snoc seen t, found, same) (sym (append-nil (texts_once seen)))
+pub text_pass : (seen known : List (List ℕ)) (t : List ℕ) → known ≡ texts_once seen → list_any (λ u. bytes_eq u t) seen ≡ true → known ≡ texts_once (seen ++ t ∷ [])
+text_pass seen known t same found = rw (texts_once-snoc seen t, found, same) (sym (append-nil (texts_once seen)))
 
 -- where a text is there, its place leads back to it
 place-or-end : (b : Bool) (n end : ℕ) → nat_lt n end ≡ b → n ≤ end → unwrap_or (cond b (Some n) None) end ≡ n
@@ -73,10 +73,14 @@ written-numbered bundles rows keys kinds (a ∷ assets) has_keys has_kinds =
     let rest = written-numbered bundles rows keys kinds assets (λ t there. has_keys t (list_any-append (λ u. bytes_eq u t) a.keys (flat_map (λ a. a.keys) assets) ∙ rw there (or_true (list_any (λ u. bytes_eq u t) a.keys)))) (λ t there. has_kinds t (rw there (or_true (bytes_eq a.kind t)))) in
     rw (own, kind, rest)
 
+pub written_back : (bundles : List BundleRow) (assets : List PlainAsset) → map (written (rows_of bundles assets)) (rows_of bundles assets).assets ≡ assets
+unfolding rows_of
+written_back bundles assets = written-numbered bundles (map (numbered (keys_of assets) (kinds_of assets)) assets) (keys_of assets) (kinds_of assets) assets (λ t there. any-texts_once t (flat_map (λ a. a.keys) assets) ∙ there) (λ t there. any-texts_once t (map (λ a. a.kind) assets) ∙ there)
+
 pub AreRows-rows_of : (bundles : List BundleRow) (assets : List PlainAsset) → length bundles < 2 ^ 32 → length assets < 2 ^ 32 → length (keys_of assets) < 2 ^ 32 → IsTrue (list_all (λ a. has_sound_deps (length bundles) a.deps) assets) → IsTrue (list_all (λ a. no_text_twice a.keys) assets) → AreRows (rows_of bundles assets)
 unfolding rows_of
 AreRows-rows_of bundles assets few_bundles few_assets few_keys deps keys =
-    let back : map (written (rows_of bundles assets)) (map (numbered (keys_of assets) (kinds_of assets)) assets) ≡ assets = written-numbered bundles (map (numbered (keys_of assets) (kinds_of assets)) assets) (keys_of assets) (kinds_of assets) assets (λ t there. any-texts_once t (flat_map (λ a. a.keys) assets) ∙ there) (λ t there. any-texts_once t (map (λ a. a.kind) assets) ∙ there) in
+    let back : map (written (rows_of bundles assets)) (map (numbered (keys_of assets) (kinds_of assets)) assets) ≡ assets = written_back bundles assets in
     record {
       numbers = ap (rows_of bundles) back;
       few_bundles = few_bundles;

@@ -1,5 +1,9 @@
+pub mod Alike
+pub mod Evaluated
+pub mod Lookups
 pub mod Merge
 pub mod PlainFields
 pub mod PlainParts
 pub mod PlainRows
+pub mod PlainText
 pub mod Rows

@@ -7,13 +7,16 @@
 #![tactic(auto)]
 
 mod error;
+mod evaluation;
 mod laws;
 mod locator;
 mod merging;
 mod numbering;
+mod places;
 mod plain_fields;
 mod plain_lists;
 mod plain_reader;
+mod plain_writer;
 mod rows;
 #[cfg(test)]
 mod tests;
@@ -25,4 +28,5 @@ pub use locator::Locator;
 pub use merging::is_match;
 pub use numbering::of_rows;
 pub use plain_reader::read_rows;
+pub use plain_writer::write_rows;
 pub use rows::{AssetRow, BundleRow, Kind, Merge, PlainAsset};

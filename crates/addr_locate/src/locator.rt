@@ -1,14 +1,16 @@
 // A catalogue's rows in memory, with keys and types found by their texts. Lists are kept plain: a text is searched for.
-ghost use Rattle.std.specs.Prelude.{◌≡◌, ◌<◌, ◌^◌, length, nat_lt, slice_get, IsTrue, IfOk, is_some};
+ghost use Rattle.std.specs.Prelude.{◌≡◌, ◌<◌, ◌^◌, length, nat_lt, slice_get, IsTrue, IfOk, OnErr, OnOk, is_some};
 ghost use Rattle.std.specs.List.{list_all, list_any};
 ghost use Rattle.std.specs.Option.{option_copied};
+ghost use Rattle.addr_locate.specs.Evaluated.{evaluated};
 ghost use Rattle.addr_locate.specs.Merge.{merged, deps_of};
-ghost use Rattle.addr_locate.specs.Rows.{has_sound_deps, are_bundles, no_repeats, key_of, kind_of, has_key_text, has_kind_text};
+ghost use Rattle.addr_locate.specs.Rows.{AreRows, has_sound_deps, are_bundles, no_repeats, key_of, kind_of, has_key_text, has_kind_text};
 
+use crate::evaluation::evaluated_bundles;
 use crate::merging::{distinct_deps, merge_rows};
 use crate::rows::{AssetRow, BundleRow, Kind, Merge};
 use crate::texts::{place_of, text_at};
-use addr_base::{BundleNo, Items, KeyNo, NoMemory, RowNo, Text, TypeNo};
+use addr_base::{BundleNo, Items, KeyNo, NoMemory, RowNo, Text, TypeNo, Var};
 use std::alloc::Global;
 use std::marker::Model;
 
@@ -32,6 +34,13 @@ impl Model for Locator {
 }
 
 impl Locator {
+    /// What every locator keeps. This is a law about its rows, and does nothing when it runs.
+    pub fn are_rows(&self)
+        ensures { AreRows self.now }
+    {
+        let _ = &self.bundles;
+    }
+
     /// The bundle rows, in the order of the catalogue.
     pub fn bundles(&self) -> &[BundleRow]
         ensures rows { result.now ≡ self.now.bundles }
@@ -104,5 +113,15 @@ impl Locator {
         ensures once { IfOk result (λ found. IsTrue (no_repeats found)) }
     {
         distinct_deps(alloc, self.assets.as_slice(), rows)
+    }
+
+    /// Puts the values of the variables into the ids of the bundles. Takes memory for as many bundle rows as there are, and
+    /// lets go of the old ones.
+    pub fn evaluate(&mut self, alloc: Global, vars: &[Var]) -> Result<(), NoMemory>
+        ensures ok { OnOk result (self.new ≡ evaluated vars.now self.old) }
+        ensures err { OnErr result (self.new ≡ self.old) }
+    {
+        self.bundles = evaluated_bundles(alloc, self.bundles.as_slice(), vars)?;
+        Ok(())
     }
 }

@@ -153,7 +153,7 @@ pub(crate) fn merge_rows(
     }
 }
 
-pub(crate) fn is_known(bundles: &[BundleNo], bundle: BundleNo) -> bool
+fn is_known(bundles: &[BundleNo], bundle: BundleNo) -> bool
     ensures { result ≡ list_any (λ c. c.0 == bundle.0) bundles.now }
 {
     bundles.iter().any(|b| b.0 == bundle.0)

@@ -1,14 +1,16 @@
 // Rows with their texts numbered. First the texts are listed, each once, then each row's are looked up: two walks, so
-// that a number never depends on how far the first one came.
+// that a number never depends on how far the first one came. Both go by ordered maps of texts.
 ghost use Rattle.std.specs.Prelude.{◌≡◌, ◌<◌, ◌^◌, List, ℕ, map, length, IfOk, IsTrue};
 ghost use Rattle.std.specs.List.{list_all};
 ghost use Rattle.addr_locate.specs.Rows.{place_of, numbered, keys_of, kinds_of, rows_of, has_sound_deps, no_text_twice};
 
 use crate::locator::Locator;
+use crate::places::Places;
 use crate::rows::{AssetRow, BundleRow, PlainAsset};
-use crate::texts::{add_text, add_texts, place_or_end};
+use crate::texts::{add_text, add_texts};
 use addr_base::{Items, KeyNo, NoMemory, Text, TypeNo};
 use std::alloc::Global;
+use std::collections::BTreeMap;
 
 /// The locator of these rows. Each asset has dependencies, each a bundle's number, none twice, and no key twice.
 pub fn of_rows(
@@ -38,9 +40,10 @@ pub fn of_rows(
 fn keys_of(alloc: Global, assets: &[PlainAsset]) -> Result<Items<Text>, NoMemory>
     ensures { IfOk result (λ keys. keys ≡ keys_of assets.now) }
 {
+    let mut seen = BTreeMap::new(alloc);
     let mut keys = Items::new(alloc);
     for asset in assets {
-        add_texts(alloc, &mut keys, asset.keys.as_slice())?;
+        add_texts(alloc, &mut seen, &mut keys, asset.keys.as_slice())?;
     }
     Ok(keys)
 }
@@ -48,9 +51,10 @@ fn keys_of(alloc: Global, assets: &[PlainAsset]) -> Result<Items<Text>, NoMemory
 fn kinds_of(alloc: Global, assets: &[PlainAsset]) -> Result<Items<Text>, NoMemory>
     ensures { IfOk result (λ kinds. kinds ≡ kinds_of assets.now) }
 {
+    let mut seen = BTreeMap::new(alloc);
     let mut kinds = Items::new(alloc);
     for asset in assets {
-        add_text(alloc, &mut kinds, &asset.kind)?;
+        add_text(alloc, &mut seen, &mut kinds, asset.kind.as_str())?;
     }
     Ok(kinds)
 }
@@ -65,24 +69,24 @@ fn number_rows(
     requires few_kinds { length kinds.now < 2 ^ 32 }
     ensures { IfOk result (λ rows. rows ≡ map (numbered keys.now kinds.now) assets.items) }
 {
+    let key_places = Places::of(alloc, keys)?;
+    let kind_places = Places::of(alloc, kinds)?;
     let mut rows = Items::new(alloc);
     for asset in assets {
-        rows.push(numbered(alloc, keys, kinds, asset)?)?;
+        rows.push(numbered(alloc, &key_places, &kind_places, asset)?)?;
     }
     Ok(rows)
 }
 
 fn numbered(
     alloc: Global,
-    keys: &[Text],
-    kinds: &[Text],
+    keys: &Places<'_>,
+    kinds: &Places<'_>,
     asset: PlainAsset,
 ) -> Result<AssetRow, NoMemory>
-    requires few_keys { length keys.now < 2 ^ 32 }
-    requires few_kinds { length kinds.now < 2 ^ 32 }
-    ensures { IfOk result (λ row. row ≡ numbered keys.now kinds.now asset) }
+    ensures { IfOk result (λ row. row ≡ numbered keys.now.texts.now kinds.now.texts.now asset) }
 {
-    let kind = TypeNo(place_or_end(kinds, asset.kind.as_str()));
+    let kind = TypeNo(kinds.place(asset.kind.as_str()));
     let numbers = key_numbers(alloc, keys, asset.keys.as_slice())?;
     let PlainAsset { id, deps, .. } = asset;
     Ok(AssetRow {
@@ -93,13 +97,12 @@ fn numbered(
     })
 }
 
-fn key_numbers(alloc: Global, keys: &[Text], texts: &[Text]) -> Result<Items<KeyNo>, NoMemory>
-    requires { length keys.now < 2 ^ 32 }
-    ensures { IfOk result (λ numbers. numbers ≡ map (λ t. record { 0 = place_of keys.now t }) texts.now) }
+fn key_numbers(alloc: Global, keys: &Places<'_>, texts: &[Text]) -> Result<Items<KeyNo>, NoMemory>
+    ensures { IfOk result (λ numbers. numbers ≡ map (λ t. record { 0 = place_of keys.now.texts.now t }) texts.now) }
 {
     let mut numbers = Items::new(alloc);
     for text in texts {
-        numbers.push(KeyNo(place_or_end(keys, text.as_str())))?;
+        numbers.push(KeyNo(keys.place(text.as_str())))?;
     }
     Ok(numbers)
 }

@@ -1,15 +1,14 @@
 // The two fields of an asset's line that are lists: its dependencies and its keys. Each part is read where it is there, and
-// the list is then tested as a whole, since a repeat is seen only against the others.
+// the list is then tested as a whole, since a repeat is seen only against the others; an ordered map finds it.
 ghost use Rattle.std.specs.Prelude.{◌≡◌, ℕ, List, MatchOption, IfSome, IfOk};
 ghost use Rattle.addr_base.specs.declared.ids.BundleNo.{BundleNo};
 ghost use Rattle.addr_locate.specs.PlainFields.{AreNumbers, AreTokens, ReadsDeps, ReadsKeys};
 ghost use Rattle.addr_locate.specs.Rows.{are_bundles, has_sound_deps, no_repeats, no_text_twice};
 
-use crate::merging::is_known;
-use crate::texts::has_text;
 use addr_base::{BundleNo, Items, NoMemory, Text, untoken_bytes};
 use addr_fields::{cut_at, is_same, number};
 use std::alloc::Global;
+use std::collections::BTreeMap;
 
 /// The dependencies that the field spells where there are so many bundles.
 pub(crate) fn deps_list(
@@ -21,11 +20,8 @@ pub(crate) fn deps_list(
 {
     match number_list(alloc, field)? {
         Some(deps) => {
-            if has_sound_deps(count, deps.as_slice()) {
-                Ok(Some(deps))
-            } else {
-                Ok(None)
-            }
+            let sound = has_sound_deps(alloc, count, deps.as_slice())?;
+            if sound { Ok(Some(deps)) } else { Ok(None) }
         }
         None => Ok(None),
     }
@@ -40,20 +36,21 @@ pub(crate) fn keys_list(alloc: Global, field: &[u8]) -> Result<Option<Items<Text
     }
     match token_list(alloc, field)? {
         Some(keys) => {
-            if no_text_twice(keys.as_slice()) {
-                Ok(Some(keys))
-            } else {
-                Ok(None)
-            }
+            let once = no_text_twice(alloc, keys.as_slice())?;
+            if once { Ok(Some(keys)) } else { Ok(None) }
         }
         None => Ok(None),
     }
 }
 
-fn has_sound_deps(count: u32, deps: &[BundleNo]) -> bool
-    ensures { result ≡ has_sound_deps count deps.now }
+fn has_sound_deps(alloc: Global, count: u32, deps: &[BundleNo]) -> Result<bool, NoMemory>
+    ensures { IfOk result (λ sound. sound ≡ has_sound_deps count deps.now) }
 {
-    !deps.is_empty() && are_bundles(count, deps) && no_repeats(deps)
+    if deps.is_empty() || !are_bundles(count, deps) {
+        return Ok(false);
+    }
+    let once = no_repeats(alloc, deps)?;
+    Ok(once)
 }
 
 fn are_bundles(count: u32, deps: &[BundleNo]) -> bool
@@ -62,26 +59,28 @@ fn are_bundles(count: u32, deps: &[BundleNo]) -> bool
     deps.iter().all(|b| b.0 < count)
 }
 
-fn no_repeats(deps: &[BundleNo]) -> bool
-    ensures { result ≡ no_repeats deps.now }
+fn no_repeats(alloc: Global, deps: &[BundleNo]) -> Result<bool, NoMemory>
+    ensures { IfOk result (λ once. once ≡ no_repeats deps.now) }
 {
-    for (i, dep) in deps.iter().enumerate() {
-        if is_known(&deps[i + 1..], *dep) {
-            return false;
+    let mut seen = BTreeMap::new(alloc);
+    for dep in deps {
+        if seen.insert(dep.0, ())?.is_some() {
+            return Ok(false);
         }
     }
-    true
+    Ok(true)
 }
 
-fn no_text_twice(keys: &[Text]) -> bool
-    ensures { result ≡ no_text_twice keys.now }
+fn no_text_twice(alloc: Global, keys: &[Text]) -> Result<bool, NoMemory>
+    ensures { IfOk result (λ once. once ≡ no_text_twice keys.now) }
 {
-    for (i, key) in keys.iter().enumerate() {
-        if has_text(&keys[i + 1..], key.as_str()) {
-            return false;
+    let mut seen = BTreeMap::new(alloc);
+    for key in keys {
+        if seen.insert(key.as_str(), ())?.is_some() {
+            return Ok(false);
         }
     }
-    true
+    Ok(true)
 }
 
 /// One number or more, with a comma between each two.

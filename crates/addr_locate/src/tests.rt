@@ -1,6 +1,7 @@
-// What no clause says: the worked rows read, the places of bad lines, and that each call can succeed.
-use crate::{Kind, Merge, RowsErr, of_rows, read_rows};
-use addr_base::{BundleNo, KeyNo, RowNo, TypeNo};
+// What no clause says: the worked rows read and written, the places of bad lines, and that each call can succeed.
+use crate::{Kind, Merge, RowsErr, of_rows, read_rows, write_rows};
+use addr_base::{BundleNo, KeyNo, RowNo, Text, TypeNo, Var};
+use std::alloc::Global;
 use std::test::Fail;
 
 const ROWS: &[u8] =
@@ -108,5 +109,48 @@ fn names_the_first_bad_line(rt: HostRuntime) {
 fn numbers_no_rows(rt: HostRuntime) -> Result<(), Fail> {
     let locator = of_rows(rt.alloc(), Vec::new(rt.alloc()), Vec::new(rt.alloc()))?;
     assert_eq!(rt; locator.assets().len(), 0);
+    Ok(())
+}
+
+#[test]
+fn writes_the_worked_rows(rt: HostRuntime) -> Result<(), Fail> {
+    let Ok(locator) = read_rows(rt.alloc(), ROWS) else {
+        assert!(rt; false);
+        return Ok(());
+    };
+    let text = write_rows(rt.alloc(), &locator)?;
+    assert_eq!(rt;
+        text.as_str(),
+        "addr-rows 1\nbundle A 100 00000000000000000000000000000000 A local/A\nbundle B 200 00000000000000000000000000000000 B local/B\nasset 00000000000000000000000000000001 Mesh 0 tree,00000000000000000000000000000001,green\nasset 00000000000000000000000000000002 Mesh 1,0 bush,green,00000000000000000000000000000002\nasset 00000000000000000000000000000003 Mesh 0 green,00000000000000000000000000000003\n"
+    );
+    assert_eq!(rt; bad_line(&rt, text.as_bytes()), None);
+    Ok(())
+}
+
+fn variable(alloc: Global, name: &str, value: &str) -> Result<Var, Fail> {
+    Ok(Var {
+        name: Text::copy_of(alloc, name)?,
+        value: Text::copy_of(alloc, value)?,
+    })
+}
+
+#[test]
+fn evaluates_ids(rt: HostRuntime) -> Result<(), Fail> {
+    let Ok(mut locator) = read_rows(
+        rt.alloc(),
+        b"addr-rows 1\nbundle {Host} 1 00000000000000000000000000000000 {Host} {Host}/{Port}/a\n",
+    ) else {
+        assert!(rt; false);
+        return Ok(());
+    };
+    let vars = [
+        variable(rt.alloc(), "Host", "h")?,
+        variable(rt.alloc(), "Host", "k")?,
+    ];
+    locator.evaluate(rt.alloc(), &vars)?;
+    for bundle in locator.bundles() {
+        assert_eq!(rt; bundle.id.as_str(), "h/{Port}/a");
+        assert_eq!(rt; bundle.key.as_str(), "{Host}");
+    }
     Ok(())
 }

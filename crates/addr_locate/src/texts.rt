@@ -1,12 +1,13 @@
 // Searches in a plain list of texts, and a list that takes each text once.
 ghost use Rattle.std.specs.Prelude.{◌≡◌, ◌<◌, ◌^◌, ◌++◌, ◌∷◌, [], ℕ, List, length, slice_get, OnOk};
-ghost use Rattle.std.specs.List.{list_any, position};
+ghost use Rattle.std.specs.List.{position};
 ghost use Rattle.std.specs.Option.{option_copied};
 ghost use Rattle.std.specs.Str.{bytes_eq};
-ghost use Rattle.addr_locate.specs.Rows.{place_of as place_in, texts_once};
+ghost use Rattle.addr_locate.specs.Lookups.{AreListed};
 
 use addr_base::{Items, NoMemory, Text};
 use std::alloc::Global;
+use std::collections::BTreeMap;
 
 fn is_text(known: &Text, text: &str) -> bool
     ensures { result ≡ bytes_eq known.now text.now }
@@ -25,17 +26,6 @@ pub(crate) fn place_of(texts: &[Text], text: &str) -> Option<u32>
     }
 }
 
-/// The place of the text, or the number of texts where it isn't there.
-pub(crate) fn place_or_end(texts: &[Text], text: &str) -> u32
-    requires { length texts.now < 2 ^ 32 }
-    ensures { result ≡ place_in texts.now text.now }
-{
-    match place_of(texts, text) {
-        None => texts.len() as u32,
-        Some(place) => place,
-    }
-}
-
 /// The text at the place, if there is one.
 pub(crate) fn text_at(texts: &[Text], place: u32) -> Option<&str>
     ensures { option_copied result ≡ slice_get texts.now place }
@@ -46,34 +36,34 @@ pub(crate) fn text_at(texts: &[Text], place: u32) -> Option<&str>
     }
 }
 
-/// Whether the text is there.
-pub(crate) fn has_text(texts: &[Text], text: &str) -> bool
-    ensures { result ≡ list_any (λ t. bytes_eq t text.now) texts.now }
+/// Appends a copy of the text where it wasn't seen before.
+pub(crate) fn add_text<'a>(
+    alloc: Global,
+    seen: &mut BTreeMap<&'a str, ()>,
+    once: &mut Items<Text>,
+    text: &'a str,
+) -> Result<(), NoMemory>
+    ensures { (before : List (List ℕ)) → AreListed before once.old seen.old → OnOk result (AreListed (before ++ text.now ∷ []) once.new seen.new) }
 {
-    texts.iter().any(|t| is_text(t, text))
-}
-
-/// Appends a copy of the text where it isn't there.
-pub(crate) fn add_text(alloc: Global, texts: &mut Items<Text>, text: &Text) -> Result<(), NoMemory>
-    ensures { (seen : List (List ℕ)) → texts.old ≡ texts_once seen → OnOk result (texts.new ≡ texts_once (seen ++ text.now ∷ [])) }
-{
-    if has_text(texts.as_slice(), text.as_str()) {
+    if seen.insert(text, ())?.is_some() {
         return Ok(());
     }
-    let copy = Text::copy_of(alloc, text.as_str())?;
-    texts.push(copy)
+    let copy = Text::copy_of(alloc, text)?;
+    once.push(copy)?;
+    Ok(())
 }
 
-/// Appends copies of those that aren't there.
-pub(crate) fn add_texts(
+/// Appends copies of those that weren't seen before.
+pub(crate) fn add_texts<'a>(
     alloc: Global,
-    texts: &mut Items<Text>,
-    more: &[Text],
+    seen: &mut BTreeMap<&'a str, ()>,
+    once: &mut Items<Text>,
+    texts: &'a [Text],
 ) -> Result<(), NoMemory>
-    ensures { (seen : List (List ℕ)) → texts.old ≡ texts_once seen → OnOk result (texts.new ≡ texts_once (seen ++ more.now)) }
+    ensures { (before : List (List ℕ)) → AreListed before once.old seen.old → OnOk result (AreListed (before ++ texts.now) once.new seen.new) }
 {
-    for text in more {
-        add_text(alloc, texts, text)?;
+    for text in texts {
+        add_text(alloc, seen, once, text.as_str())?;
     }
     Ok(())
 }

@@ -1,14 +1,15 @@
 -- What a project keeps, from the tests of its file and of its asset files.
-use Rattle.std.proofs.Common.{◌≡◌, ℕ, zero, suc, ◌+◌, ◌<◌, ◌≤◌, nat_lt, nat_le, Bool, true, false, not, cond, List, [], ◌∷◌, ◌++◌, length, map, Option, Some, None, Result, Ok, Err, refl, sym, ap, subst, ◌∙◌, arith}
+use Rattle.std.proofs.Common.{◌≡◌, ℕ, zero, suc, ◌+◌, ◌≤◌, nat_lt, nat_le, Bool, true, false, not, cond, List, [], ◌∷◌, length, map, Option, Some, None, Ok, refl, sym, ap, subst, ◌∙◌, arith}
 use Rattle.std.proofs.lemmas.Bool.{false≢true}
 use Rattle.std.proofs.lemmas.Bool.Decides.{nat_tests}
-use Rattle.std.proofs.lemmas.List.{length-map, length-append}
-use Rattle.std.specs.List.{position, position_or_len, AllByRecursion}
-use Rattle.std.specs.Option.{option_or, option_map, is_some, unwrap_or}
-use Rattle.std.specs.Str.{bytes_eq}
+use Rattle.std.proofs.lemmas.List.{length-map}
+use Rattle.std.specs.Cmp.Lexicographic.{slice_cmp}
+use Rattle.std.specs.List.{position, position_or_len, AllByRecursion, Contains, slice_get}
+use Rattle.std.specs.List.Sorted.{IsStrictlySortedBy}
+use Rattle.std.specs.Option.{option_map}
+use Rattle.std.specs.Ordering.{nat_cmp}
+use Rattle.addr_base.specs.Ids.{Are16Bytes}
 use Rattle.addr_base.specs.declared.ids.Guid.{Guid}
-use Rattle.addr_project.specs.declared.error.ExpandErr.{ExpandErr}
-use Rattle.addr_project.specs.declared.error.ProjectErr.{ProjectErr}
 use Rattle.addr_project.specs.declared.model.Asset.{Asset}
 use Rattle.addr_project.specs.declared.model.Entry.{Entry}
 use Rattle.addr_project.specs.declared.rows.AssetRow.{AssetRow}
@@ -16,20 +17,18 @@ use Rattle.addr_project.specs.declared.rows.EntryRow.{EntryRow}
 use Rattle.addr_project.specs.declared.rows.ProjectFile.{ProjectFile}
 use Rattle.addr_project.specs.AssetFiles.{KeepsRows}
 use Rattle.addr_project.specs.Checked.{entries_of}
-use Rattle.addr_project.specs.Expansion.{Outcome, bad, circular, given, expanded, reply_to, outcome_of}
-use Rattle.addr_project.specs.Faults.{count_fault, key_fault, link_fault, name_fault, texts_fault, file_fault, guids_of, names_of, is_reserved, lacks_group, lacks_ref, lacks_asset}
-use Rattle.addr_project.specs.Firsts.{first_from, first_repeat, is_among, number_if, place_of}
+use Rattle.addr_expansion.specs.Expansion.{Outcome, bad, circular, given, expanded, reply_to, outcome_of}
+use Rattle.addr_project.specs.Faults.{count_fault, key_fault, link_fault, file_fault, guids_of, entry_guids, names_of, is_reserved, lacks_group, lacks_ref, lacks_asset}
+use Rattle.addr_project_rows.specs.Firsts.{first_repeat, is_among}
 use Rattle.addr_project.specs.Kept.{IsKept, IsKeptEntry, asset_guids}
 use Rattle.addr_project.specs.Model.{Project}
 use Rattle.addr_project.specs.Reading.{entry_from, place, text_of}
 use Rattle.addr_project.specs.declared.model.Group.{Group}
 use Rattle.addr_base.specs.declared.var.Var.{Var}
-use Rattle.addr_project.proofs.KeyLemmas.{among_place}
-use Rattle.addr_project.proofs.ReplyLemmas.{position-map}
-
-none-parts : {A : Type 0} (a b : Option A) → option_or a b ≡ None → (a ≡ None) × (b ≡ None)
-none-parts None b is = (refl, is)
-none-parts (Some x) b is = absurd (cc)
+use Rattle.addr_walks.specs.Once.{AreOnce}
+use Rattle.addr_project.proofs.OnceLemmas.{none-parts, once_from, known_at, known_place, from_map, to_map, get_contained, contained_get, any_fails}
+use Rattle.addr_expansion.proofs.ReplyLemmas.{position-map}
+use Rattle.addr_project.proofs.TreeLemmas.{AreGoodRows}
 
 map-none : {A B : Type 0} (f : A → B) (o : Option A) → option_map f o ≡ None → o ≡ None
 map-none f None is = refl
@@ -54,29 +53,6 @@ front test x xs false is none = (is, rest (nat_lt (position_or_len test xs) (len
         absurd (cc)
     rest false past = ap (λ (b : Bool). cond b (Some (position_or_len test xs)) None) past
 
-place_within : (test : List ℕ → Bool) (before keys : List (List ℕ)) (n : ℕ) → first_from (number_if (λ b k. test k)) before keys ≡ Some n → n < length before + length keys
-unfolding first_from
-place_within test before [] n is = absurd (cc)
-place_within test before (k ∷ keys) n is = by_test (test k) refl (place_within test (before ++ k ∷ []) keys n)
-  where
-    by_test : (t : Bool) → test k ≡ t → (first_from (number_if (λ b x. test x)) (before ++ k ∷ []) keys ≡ Some n → n < length (before ++ k ∷ []) + length keys) → n < length before + length (k ∷ keys)
-    by_test true equal rest =
-        let found : Some (length before) ≡ Some n = sym (ap (λ (b : Bool). option_or (cond b (Some (length before)) None) (first_from (number_if (λ b x. test x)) (before ++ k ∷ []) keys)) equal) ∙ is in
-        let same : length before ≡ n = cc in
-        omega arith
-    by_test false other rest =
-        let later = rest (sym (ap (λ (b : Bool). option_or (cond b (Some (length before)) None) (first_from (number_if (λ b x. test x)) (before ++ k ∷ []) keys)) other) ∙ is) in
-        omega (arith, later, length-append before (k ∷ []))
-
-known_place : (keys : List (List ℕ)) (key : List ℕ) (o : Option ℕ) → place_of keys key ≡ o → not (is_among keys key) ≡ false → place keys key < length keys
-known_place keys key None is known =
-    let none : is_among keys key ≡ false = among_place keys key ∙ ap is_some is in
-    absurd (false≢true (sym known ∙ ap not none))
-known_place keys key (Some n) is known =
-    let at : place keys key ≡ n = ap (λ (o : Option ℕ). unwrap_or o 0) is in
-    let small = place_within (λ k. bytes_eq k key) [] keys n is in
-    omega (arith, at, small)
-
 short_text : (t : List ℕ) (b : Bool) → nat_le (length t) 1024 ≡ b → length (text_of (reply_to (given t))) ≤ 1024
 short_text t true short = rw short (grind (arith, nat_tests))
 short_text t false long = rw long (omega arith)
@@ -94,21 +70,73 @@ labels-same : (guids names : List (List ℕ)) (es : List EntryRow) → map (λ e
 labels-same guids names [] = refl
 labels-same guids names (e ∷ es) = ap (λ (l : List (List (List ℕ))). e.labels ∷ l) (labels-same guids names es)
 
-module _ (p : Project) (guids names : List (List ℕ)) (assets : length guids ≡ length p.assets) (groups : length names ≡ length p.groups) where
-  kept_entries : (es : List EntryRow) → position (lacks_group names) es ≡ None → position (lacks_asset guids) es ≡ None → AllByRecursion (IsKeptEntry p) (map (entry_from guids names) es)
-  kept_entries [] grouped known = tt
-  kept_entries (e ∷ es) grouped known =
-      let group = front (lacks_group names) e es (lacks_group names e) refl grouped in
-      let asset = front (lacks_asset guids) e es (lacks_asset guids e) refl known in
-      let asset_small : place guids e.guid.0 < length guids = known_place guids e.guid.0 (place_of guids e.guid.0) refl asset.0 in
-      let group_small : place names e.group < length names = known_place names e.group (place_of names e.group) refl group.0 in
-      (record { asset = omega arith; group = omega arith }, kept_entries es group.1 asset.1)
+-- where a test finds no row, each fails it
+none_passes : {X : Type 0} (test : X → Bool) (xs : List X) → position test xs ≡ None → AllByRecursion (λ x. test x ≡ false) xs
+none_passes test [] none = tt
+none_passes test (x ∷ xs) none =
+    let (first, rest) = front test x xs (test x) refl none in
+    (first, none_passes test xs rest)
 
-pub kept_from : (f : ProjectFile) (assets : List Asset) (local remote : List ℕ) → file_fault f ≡ None → KeepsRows f.assets assets
+all_at : {X : Type 0} (P : X → Type 0) (xs : List X) (i : ℕ) (x : X) → AllByRecursion P xs → slice_get xs i ≡ Some x → P x
+all_at P [] i x all at = absurd (cc)
+all_at P (k ∷ xs) zero x (first, rest) at = let same : k ≡ x = cc in subst P same first
+all_at P (k ∷ xs) (suc i) x (first, rest) at = all_at P xs i x rest at
+
+-- of a mapped list and of what is mapped
+all_map : {X Y : Type 0} (P : Y → Type 0) (f : X → Y) (xs : List X) → AllByRecursion (λ x. P (f x)) xs → AllByRecursion P (map f xs)
+all_map P f [] all = tt
+all_map P f (x ∷ xs) (first, rest) = (first, all_map P f xs rest)
+
+all_unmap : {X Y : Type 0} (P : Y → Type 0) (f : X → Y) (xs : List X) → AllByRecursion P (map f xs) → AllByRecursion (λ x. P (f x)) xs
+all_unmap P f [] all = tt
+all_unmap P f (x ∷ xs) (first, rest) = (first, all_unmap P f xs rest)
+
+is_known : (b : Bool) → not b ≡ false → b ≡ true
+is_known true known = refl
+is_known false known = absurd (false≢true (sym known))
+
+-- an entry's numbers are those of its asset and of its group
+module _ (p : Project) (guids names : List (List ℕ)) (assets : length guids ≡ length p.assets) (groups : length names ≡ length p.groups) where
+  kept_entries : (es : List EntryRow) → AllByRecursion (λ e. lacks_group names e ≡ false) es → AllByRecursion (λ e. lacks_asset guids e ≡ false) es → AllByRecursion (IsKeptEntry p) (map (entry_from guids names) es)
+  kept_entries [] grouped known = tt
+  kept_entries (e ∷ es) (group, grouped) (asset, known) =
+      let asset_small = known_place guids e.guid.0 (is_known (is_among guids e.guid.0) asset) in
+      let group_small = known_place names e.group (is_known (is_among names e.group) group) in
+      (record { asset = omega (arith, asset_small); group = omega (arith, group_small) }, kept_entries es grouped known)
+
+-- entries of one asset have one GUID
+module _ (guids names : List (List ℕ)) (es : List EntryRow) (known : AllByRecursion (λ e. lacks_asset guids e ≡ false) es) where
+  guid_at : (i n : ℕ) → slice_get (map (λ e. e.asset) (map (entry_from guids names) es)) i ≡ Some n
+      → (row : EntryRow) × (slice_get es i ≡ Some row) × (slice_get guids n ≡ Some row.guid.0)
+  guid_at i n at =
+      let (e, entry, number) = from_map (λ (e : Entry). e.asset) (map (entry_from guids names) es) i n at in
+      let (row, here, made) = from_map (entry_from guids names) es i e entry in
+      let found : slice_get guids (place guids row.guid.0) ≡ Some row.guid.0 = known_at guids row.guid.0 (is_known (is_among guids row.guid.0) (all_at (λ e. lacks_asset guids e ≡ false) es i row known here)) in
+      let same : place guids row.guid.0 ≡ n = ap (λ (e : Entry). e.asset) made ∙ number in
+      (row, here, ap (slice_get guids) (sym same) ∙ found)
+
+  entries_differ : AreOnce (entry_guids es) → AreOnce (map (λ e. e.asset) (map (entry_from guids names) es))
+  entries_differ once i j n at_i at_j =
+      let (one, one_at, one_is) = guid_at i n at_i in
+      let (other, other_at, other_is) = guid_at j n at_j in
+      let same : one.guid.0 ≡ other.guid.0 = cc in
+      once i j one.guid.0 (to_map (λ (e : EntryRow). e.guid.0) es i one one_at) (to_map (λ (e : EntryRow). e.guid.0) es j other other_at ∙ ap Some (sym same))
+
+-- each reference is the GUID of an asset
+refs_known : (assets : List Asset) → AllByRecursion (λ a. lacks_ref (asset_guids assets) a.refs ≡ false) assets
+    → (a : Asset) (r : Guid) → Contains assets a → Contains a.refs r → (b : Asset) × Contains assets b × (b.guid ≡ r)
+refs_known assets known a r asset ref =
+    let (i, at) = get_contained assets a asset in
+    let (j, here) = get_contained a.refs r ref in
+    let found = is_known (is_among (asset_guids assets) r.0) (any_fails (λ (g : Guid). not (is_among (asset_guids assets) g.0)) a.refs j r (all_at (λ (a : Asset). lacks_ref (asset_guids assets) a.refs ≡ false) assets i a known at) here) in
+    let (b, there, same) = from_map (λ (a : Asset). a.guid.0) assets (place (asset_guids assets) r.0) r.0 (known_at (asset_guids assets) r.0 found) in
+    (b, contained_get assets (place (asset_guids assets) r.0) b there, λ i. record { 0 = same i })
+
+pub kept_from : (f : ProjectFile) (assets : List Asset) (local remote : List ℕ) → file_fault f ≡ None → AreGoodRows f → KeepsRows f.assets assets
     → expanded f.variables f.local ≡ Ok local → expanded f.variables f.remote ≡ Ok remote
     → IsKept (record { version = f.version; local = local; remote = remote; variables = f.variables; groups = f.groups; assets = assets; entries = entries_of f })
 unfolding file_fault key_fault link_fault
-kept_from f assets local remote none kept local_is remote_is =
+kept_from f assets local remote none good kept local_is remote_is =
     let tests = none-parts _ _ none in
     let names = none-parts _ _ (none-parts _ _ tests.1).0 in
     let guids_once = none-parts _ _ names.0 in
@@ -120,16 +148,22 @@ kept_from f assets local remote none kept local_is remote_is =
     let listed = none-parts _ _ known.1 in
     let p : Project = record { version = f.version; local = local; remote = remote; variables = f.variables; groups = f.groups; assets = assets; entries = entries_of f } in
     let many : length (guids_of f.assets) ≡ length assets = ap length (sym kept.guids) ∙ length-map assets (λ (a : Asset). a.guid.0) in
+    let in_assets = none_passes (lacks_asset (guids_of f.assets)) f.entries (map-none _ _ listed.0) in
+    let refs : position (λ (a : Asset). lacks_ref (asset_guids assets) a.refs) assets ≡ None =
+    sym (position-map (lacks_ref (asset_guids assets)) (λ (a : Asset). a.refs) assets)
+    ∙ (λ i. position (lacks_ref (kept.guids i)) (kept.refs i))
+    ∙ position-map (lacks_ref (guids_of f.assets)) (λ (a : AssetRow). a.refs) f.assets
+    ∙ map-none _ _ known.0 in
     record {
-      assets_once = ap first_repeat kept.guids ∙ map-none _ _ guids_once.0;
-      entries = kept_entries p (guids_of f.assets) (names_of f.groups) many (length-map f.groups (λ (g : Group). g.name)) f.entries (map-none _ _ grouped.0) (map-none _ _ listed.0);
-      refs =
-          sym (position-map (lacks_ref (asset_guids assets)) (λ (a : Asset). a.refs) assets)
-          ∙ (λ i. position (lacks_ref (kept.guids i)) (kept.refs i))
-          ∙ position-map (lacks_ref (guids_of f.assets)) (λ (a : AssetRow). a.refs) f.assets
-          ∙ map-none _ _ known.0;
-      groups_once = map-none _ _ names_once.0;
-      none_reserved = map-none _ _ free.0;
+      guids = all_unmap Are16Bytes (λ (a : Asset). a.guid.0) assets (subst (AllByRecursion Are16Bytes) (sym kept.guids) (all_map Are16Bytes (λ (a : AssetRow). a.guid.0) f.assets good.guids));
+      assets_once = once_from (asset_guids assets) (ap first_repeat kept.guids ∙ map-none _ _ guids_once.0);
+      refs_named = refs_known assets (none_passes (λ (a : Asset). lacks_ref (asset_guids assets) a.refs) assets refs);
+      entries = kept_entries p (guids_of f.assets) (names_of f.groups) many (length-map f.groups (λ (g : Group). g.name)) f.entries (none_passes (lacks_group (names_of f.groups)) f.entries (map-none _ _ grouped.0)) in_assets;
+      entries_once = entries_differ (guids_of f.assets) (names_of f.groups) f.entries in_assets (once_from (entry_guids f.entries) (map-none _ _ entries_once.0));
+      labels = all_map (λ (e : Entry). IsStrictlySortedBy (slice_cmp nat_cmp) e.labels) (entry_from (guids_of f.assets) (names_of f.groups)) f.entries good.labels;
+      groups_once = once_from (names_of f.groups) (map-none _ _ names_once.0);
+      none_reserved = none_passes is_reserved f.groups (map-none _ _ free.0);
+      variables_once = good.variables;
       counts = (λ i. count_fault f.variables f.groups (kept.refs i) (labels-same (guids_of f.assets) (names_of f.groups) f.entries i)) ∙ tests.0;
       sizes = kept.sizes;
       local = short_expanded f.variables f.local local local_is;

@@ -1,13 +1,8 @@
 pub mod DocumentLemmas
-pub mod ExpansionLemmas
-pub mod FirstLemmas
-pub mod KeyLemmas
-pub mod LabelLemmas
-pub mod Lists
 pub mod KeptLemmas
 pub mod LoadLemmas
 pub mod NeverLemmas
+pub mod OnceLemmas
 pub mod ReadLemmas
-pub mod ReplyLemmas
-pub mod RowLemmas
-pub mod VariableLemmas
+pub mod TextLemmas
+pub mod TreeLemmas

@@ -1,10 +1,9 @@
 -- Loading asset files in a loop: what is kept so far, where the depot tells its files and for every depot.
-use Rattle.std.proofs.Common.{◌≡◌, ℕ, ◌+◌, ◌<◌, ◌≤◌, nat_lt, Bool, true, false, cond, List, [], ◌∷◌, ◌++◌, length, get_or, take, map, sum, Option, Some, None, IfSome, refl, sym, ap, subst, ◌∙◌, arith}
+use Rattle.std.proofs.Common.{◌≡◌, ℕ, ◌+◌, ◌<◌, ◌≤◌, nat_lt, Bool, true, false, cond, List, [], ◌∷◌, ◌++◌, length, get_or, take, map, sum, Option, Some, None, IfSome, refl, sym, ap, subst, ◌∙◌}
 use Rattle.std.proofs.lemmas.List.{take_more, take_all, get_or-map, length-map, map-append}
 use Rattle.std.proofs.lemmas.List.Sums.{fold_push}
 use Rattle.std.specs.Option.{option_or, option_map, is_none}
 use Rattle.addr_base.specs.declared.files.MemFile.{MemFile}
-use Rattle.addr_base.specs.declared.ids.Guid.{Guid}
 use Rattle.addr_project.specs.declared.loaded.Loaded.{Loaded}
 use Rattle.addr_project.specs.declared.error.ProjectErr.{ProjectErr}
 use Rattle.addr_project.specs.declared.error.ProjectErr.TheVariants.{MissingFile, DepotFault, OverLimit}
@@ -14,11 +13,11 @@ use Rattle.addr_project.specs.declared.model.Asset.{Asset}
 use Rattle.addr_project.specs.declared.rows.AssetRow.{AssetRow}
 use Rattle.addr_project.specs.AssetFiles.{contents, assets_of, KeepsRows}
 use Rattle.addr_project.specs.Faults.{guids_of, over}
-use Rattle.addr_project.specs.Firsts.{first_from, first_where, number_if}
+use Rattle.addr_project_rows.specs.Firsts.{first_from, first_where, number_if}
 use Rattle.addr_project.specs.Kept.{asset_guids}
 use Rattle.addr_project.specs.Loading.{Adds}
 use Rattle.addr_project.specs.Reading.{bytes_of, asset_fault, asset_from, size_answer, size_fault, length_of, over_after}
-use Rattle.addr_project.proofs.FirstLemmas.{first_from-append, first_from-one, first_from-more, first_from-none, first_where-pass, first_where-found}
+use Rattle.addr_project_rows.proofs.FirstLemmas.{first_from-append, first_from-one, first_from-none, first_where-pass, first_where-found}
 
 none-parts : {A : Type 0} (a b : Option A) → option_or a b ≡ None → (a ≡ None) × (b ≡ None)
 none-parts None b is = (refl, is)

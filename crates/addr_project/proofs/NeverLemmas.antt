@@ -1,9 +1,9 @@
 -- The tests of a project file never answer a fault of the depot.
-use Rattle.std.proofs.Common.{◌≡◌, ℕ, ◌||◌, nat_lt, Bool, true, false, cond, List, [], ◌∷◌, length, map, Option, Some, None, Result, Ok, Err, refl, sym, ap, ◌∙◌}
+use Rattle.std.proofs.Common.{◌≡◌, ℕ, nat_lt, Bool, true, false, cond, List, [], ◌∷◌, length, Option, Some, None, Result, Ok, Err}
 use Rattle.std.specs.Option.{option_or, option_map, is_none}
 use Rattle.toml.specs.Data.{Members}
-use Rattle.addr_project.specs.declared.error.ExpandErr.{ExpandErr}
-use Rattle.addr_project.specs.declared.error.ExpandErr.TheVariants as expanding
+use Rattle.addr_expansion.specs.declared.error.ExpandErr.{ExpandErr}
+use Rattle.addr_expansion.specs.declared.error.ExpandErr.TheVariants as expanding
 use Rattle.addr_project.specs.declared.error.ProjectErr.{ProjectErr}
 use Rattle.addr_project.specs.declared.error.ProjectErr.TheVariants.{DepotFault, BadField, OverLimit, DuplicateGuid, DuplicateGroup, ReservedGroup, UnknownGroup, UnknownRef, BadVariable, VariableCycle}
 use Rattle.addr_project.specs.declared.limit.Limit.{Limit}
@@ -17,7 +17,7 @@ use Rattle.addr_project.specs.declared.rows.AssetRow.{AssetRow}
 use Rattle.addr_project.specs.declared.rows.EntryRow.{EntryRow}
 use Rattle.addr_project.specs.declared.rows.ProjectFile.{ProjectFile}
 use Rattle.addr_project.specs.Faults.{over, over_labels, over_refs, total_refs, unless_some, too_long, tree_fault, head_fault, row_fault, file_fault, count_fault, key_fault, link_fault, text_fault}
-use Rattle.addr_project.specs.Firsts.{first_of}
+use Rattle.addr_project_rows.specs.Firsts.{first_of}
 use Rattle.addr_project.specs.Rows.{file_of, version_of, profile_of, profile_text, profile, rows_at}
 use Rattle.std.specs.Prelude.{codes}
 

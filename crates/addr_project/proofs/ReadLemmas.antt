@@ -1,22 +1,21 @@
 -- The answer of a folder, step by step as it is read.
-use Rattle.std.proofs.Common.{◌≡◌, ℕ, List, map, Option, Some, None, Result, Ok, Err, refl, sym, ap, subst, ◌∙◌}
+use Rattle.std.proofs.Common.{◌≡◌, ℕ, List, Option, Some, None, Ok, Err, sym, ap, subst, ◌∙◌}
 use Rattle.std.specs.Prelude.{codes}
 use Rattle.toml.specs.Data.{Members}
 use Rattle.addr_base.specs.Files.{file_at}
 use Rattle.addr_base.specs.declared.files.MemFile.{MemFile}
 use Rattle.addr_project.specs.declared.error.ProjectErr.{ProjectErr}
-use Rattle.addr_project.specs.declared.error.ProjectErr.TheVariants.{NoProject, BadToml}
+use Rattle.addr_project.specs.declared.error.ProjectErr.TheVariants.{NoProject}
 use Rattle.addr_project.specs.declared.model.Asset.{Asset}
 use Rattle.addr_project.specs.declared.rows.ProjectFile.{ProjectFile}
 use Rattle.addr_project.specs.AssetFiles.{contents, assets_of, KeepsRows}
-use Rattle.addr_project.specs.Checked.{entries_of, IsParts}
+use Rattle.addr_project.specs.Checked.{IsParts}
 use Rattle.addr_project.specs.declared.parts.Parts.{Parts}
 use Rattle.addr_project.specs.Kept.{IsKept}
 use Rattle.addr_project.proofs.KeptLemmas.{kept_from}
-use Rattle.std.specs.Option.{option_or}
-use Rattle.addr_project.specs.Expansion.{expanded}
+use Rattle.addr_project.proofs.OnceLemmas.{none-parts}
+use Rattle.addr_project.proofs.TreeLemmas.{AreGoodRows}
 use Rattle.addr_project.specs.Faults.{tree_fault, file_fault}
-use Rattle.addr_project.specs.Model.{Project}
 use Rattle.addr_project.specs.Reading.{path, tree_of, asset_fault, project_of, text_of, unless_fault, reply_after, reply_of_file, reply_of_tree, reply_of_bytes, reply_of_folder}
 use Rattle.addr_project.specs.Rows.{file_of}
 
@@ -49,16 +48,12 @@ module _ (files : List MemFile) (folder : List ℕ) where
   project-parts f parts assets are assets_are =
       λ i. record { version = (sym are.version) i; local = text_of (are.local i); remote = text_of (are.remote i); variables = (sym are.variables) i; groups = (sym are.groups) i; assets = (sym assets_are) i; entries = (sym are.entries) i }
 
-none-parts : {A : Type 0} (a b : Option A) → option_or a b ≡ None → (a ≡ None) × (b ≡ None)
-none-parts None b is = (refl, is)
-none-parts (Some x) b is = absurd (cc)
-
 pub file-tested : (tree : Members) → tree_fault tree ≡ None → file_fault (file_of tree) ≡ None
 unfolding tree_fault
 file-tested tree none = (none-parts _ _ none).1
 
-pub kept_parts : (f : ProjectFile) (parts : Parts) (assets : List Asset) → file_fault f ≡ None → IsParts f parts → KeepsRows f.assets assets
+pub kept_parts : (f : ProjectFile) (parts : Parts) (assets : List Asset) → file_fault f ≡ None → AreGoodRows f → IsParts f parts → KeepsRows f.assets assets
     → IsKept (record { version = parts.version; local = parts.local; remote = parts.remote; variables = parts.variables; groups = parts.groups; assets = assets; entries = parts.entries })
-kept_parts f parts assets none are kept =
+kept_parts f parts assets none good are kept =
     subst IsKept (λ i. record { version = (sym are.version) i; local = parts.local; remote = parts.remote; variables = (sym are.variables) i; groups = (sym are.groups) i; assets = assets; entries = (sym are.entries) i })
-    (kept_from f assets parts.local parts.remote none kept are.local are.remote)
+    (kept_from f assets parts.local parts.remote none good kept are.local are.remote)

@@ -1,13 +1,11 @@
 -- Reading the files of assets: what the answer is where the depot tells its files, and what holds for every depot.
-use Rattle.std.specs.Prelude.{ℕ, ◌≡◌, ◌⊎◌, ◌+◌, List, map, length, Option, Some, None, Result, Ok, Err}
-use Rattle.std.specs.Option.{option_or}
+use Rattle.std.specs.Prelude.{ℕ, ◌≡◌, ◌⊎◌, List, map, length, Option, Some, None, Result, Ok, Err}
 use Rattle.addr_base.specs.declared.files.MemFile.{MemFile}
 use Rattle.addr_project.specs.declared.error.ProjectErr.{ProjectErr}
 use Rattle.addr_project.specs.declared.error.ProjectErr.TheVariants.{NoMemory, DepotFault}
-use Rattle.addr_project.specs.declared.limit.Limit.TheVariants as limit
 use Rattle.addr_project.specs.declared.model.Asset.{Asset}
 use Rattle.addr_project.specs.declared.rows.AssetRow.{AssetRow}
-use Rattle.addr_project.specs.Faults.{over, guids_of}
+use Rattle.addr_project.specs.Faults.{guids_of}
 use Rattle.addr_project.specs.Kept.{asset_guids}
 use Rattle.addr_project.specs.Reading.{bytes_of, asset_fault, asset_from, size_fault}
 

@@ -1,12 +1,11 @@
 -- What a checked project file stands for before the files of its assets are read.
-use Rattle.std.specs.Prelude.{ℕ, ◌≡◌, List, map, Ok}
-use Rattle.addr_base.specs.declared.var.Var.{Var}
+use Rattle.std.specs.Prelude.{◌≡◌, List, map, Ok}
 use Rattle.addr_project.specs.declared.model.Entry.{Entry}
 use Rattle.addr_project.specs.declared.parts.Texts.{Texts}
 use Rattle.addr_project.specs.declared.parts.Checked.{Checked}
 use Rattle.addr_project.specs.declared.parts.Parts.{Parts}
 use Rattle.addr_project.specs.declared.rows.ProjectFile.{ProjectFile}
-use Rattle.addr_project.specs.Expansion.{expanded}
+use Rattle.addr_expansion.specs.Expansion.{expanded}
 use Rattle.addr_project.specs.Faults.{guids_of, names_of}
 use Rattle.addr_project.specs.Reading.{entry_from}
 

@@ -1,7 +1,7 @@
 -- The tests that a project file is put to, in their order, each over whole tables: the fault is that of the first row of
 -- the first test that finds any.
-use Rattle.std.specs.Prelude.{codes, ℕ, ◌-◌, ◌^◌, ◌&&◌, ◌||◌, not, nat_lt, min, List, [], ◌∷◌, length, map, Bool, true, false, if◌then◌else◌, Option, Some, None, is_none, Result, Ok, Err}
-use Rattle.std.specs.List.{list_any, find, position, filter_map, sum_by}
+use Rattle.std.specs.Prelude.{codes, ℕ, ◌-◌, ◌^◌, ◌||◌, not, nat_lt, min, List, [], ◌∷◌, length, map, Bool, if◌then◌else◌, Option, Some, None, is_none, Result, Err}
+use Rattle.std.specs.List.{list_any, position, sum_by}
 use Rattle.std.specs.Option.{option_map, option_or}
 use Rattle.std.specs.Str.{bytes_eq}
 use Rattle.toml.specs.Data.{Data, Members}
@@ -9,8 +9,8 @@ use Rattle.addr_base.specs.declared.ids.Guid.{Guid}
 use Rattle.addr_base.specs.declared.var.Var.{Var}
 use Rattle.addr_project.specs.declared.error.ProjectErr.{ProjectErr}
 use Rattle.addr_project.specs.declared.error.ProjectErr.TheVariants.{BadField, OverLimit, DuplicateGuid, DuplicateGroup, ReservedGroup, UnknownGroup, UnknownRef, BadVariable, VariableCycle}
-use Rattle.addr_project.specs.declared.error.ExpandErr.{ExpandErr}
-use Rattle.addr_project.specs.declared.error.ExpandErr.TheVariants as expanding
+use Rattle.addr_expansion.specs.declared.error.ExpandErr.{ExpandErr}
+use Rattle.addr_expansion.specs.declared.error.ExpandErr.TheVariants as expanding
 use Rattle.addr_project.specs.declared.limit.Limit.{Limit}
 use Rattle.addr_project.specs.declared.limit.Limit.TheVariants as limit
 use Rattle.addr_project.specs.declared.limit.Part.{Part}
@@ -19,10 +19,12 @@ use Rattle.addr_project.specs.declared.model.Group.{Group}
 use Rattle.addr_project.specs.declared.rows.AssetRow.{AssetRow}
 use Rattle.addr_project.specs.declared.rows.EntryRow.{EntryRow}
 use Rattle.addr_project.specs.declared.rows.ProjectFile.{ProjectFile}
-use Rattle.addr_project.specs.Expansion.{expanded}
-use Rattle.addr_project.specs.Fields.{first_bad}
-use Rattle.addr_project.specs.Firsts.{first_some, first_of, first_where, first_repeat, is_among}
-use Rattle.addr_project.specs.Rows.{variable_of, group_of, asset_of, entry_of, version_of, profile_of, profile_text, profile, rows_at, rows, file_of}
+use Rattle.addr_expansion.specs.Expansion.{expanded}
+use Rattle.addr_expansion.specs.Replies.{is_unknown, is_circular, replies}
+use Rattle.addr_project_rows.specs.Fields.{first_bad}
+use Rattle.addr_project_rows.specs.Firsts.{first_some, first_of, first_where, first_repeat, is_among}
+use Rattle.addr_project_rows.specs.Variables.{is_bad_variable}
+use Rattle.addr_project.specs.Rows.{group_of, asset_of, entry_of, version_of, profile_of, profile_text, profile, rows_at, rows, file_of}
 
 -- 1. Fields
 
@@ -33,14 +35,6 @@ unless_some part value = if is_none value then Some (BadField part 0) else None
 -- the first bad row of a table
 abbrev pub bad_row : {A : Type 0} → Part → (Data → Option A) → List Data → Option ProjectErr
 bad_row part read ds = option_map (BadField part) (first_bad read ds)
-
--- a variable is bad among those before it where it stands for nothing, or has the name of one of them
-abbrev pub is_bad_among : List Var → Option Var → Bool
-is_bad_among before None = true
-is_bad_among before (Some v) = is_among (map (λ w. w.name) before) v.name
-
-unfoldable pub is_bad_variable : List Data → Data → Bool
-is_bad_variable before d = is_bad_among (filter_map variable_of before) (variable_of d)
 
 -- the first bad variable
 abbrev pub bad_variable : List Data → Option ProjectErr
@@ -149,14 +143,6 @@ name_fault groups assets entries = option_or (key_fault groups assets entries) (
 
 -- 4. Expansion
 
-abbrev pub is_unknown : Result (List ℕ) ExpandErr → Bool
-is_unknown (Err expanding.BadVariable) = true
-is_unknown _ = false
-
-abbrev pub is_circular : Result (List ℕ) ExpandErr → Bool
-is_circular (Err expanding.Cycle) = true
-is_circular _ = false
-
 abbrev pub too_long : Result (List ℕ) ExpandErr → Option ProjectErr
 too_long (Err (expanding.TooLong n)) = Some (OverLimit limit.Expanded n)
 too_long _ = None
@@ -173,10 +159,6 @@ text_fault local remote values = first_some (
     ∷ too_long remote
     ∷ first_of too_long values
     ∷ [])
-
--- what each variable's value expands to
-abbrev pub replies : List Var → List (Result (List ℕ) ExpandErr)
-replies vs = map (λ v. expanded vs v.value) vs
 
 -- the first text of a file that can't be expanded
 abbrev pub texts_fault : ProjectFile → Option ProjectErr

@@ -1,5 +1,5 @@
 -- Loading asset files one by one: what is kept of those so far, and what one more file makes of it.
-use Rattle.std.specs.Prelude.{ℕ, ◌≡◌, ◌+◌, ◌++◌, ◌∷◌, [], List, length, Option, Some, None}
+use Rattle.std.specs.Prelude.{ℕ, ◌≡◌, ◌+◌, ◌++◌, ◌∷◌, [], List, length, Some, None}
 use Rattle.std.specs.Option.{option_or}
 use Rattle.addr_project.specs.declared.loaded.Loaded.{Loaded}
 use Rattle.addr_project.specs.declared.rows.AssetRow.{AssetRow}

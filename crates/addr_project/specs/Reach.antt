@@ -10,7 +10,7 @@ use Rattle.addr_base.specs.declared.ids.Guid.{Guid}
 use Rattle.addr_project.specs.declared.model.Asset.{Asset}
 use Rattle.addr_project.specs.declared.model.Entry.{Entry}
 use Rattle.addr_project.specs.Model.{Project}
-use Rattle.addr_project.specs.Walks.{Leads, IsListOf}
+use Rattle.addr_walks.specs.Walks.{Leads, IsListOf}
 
 -- the order of GUIDs is that of their bytes
 abbrev pub guid_cmp : Guid → Guid → Ordering

@@ -1,24 +1,24 @@
 -- What a folder of a depot stands for: a project, or the first fault. Exactly one of the two is defined.
-use Rattle.std.specs.Prelude.{codes, ℕ, ◌≡◌, ◌⊎◌, ◌+◌, ◌||◌, nat_lt, List, [], ◌∷◌, ◌++◌, length, map, Bool, if◌then◌else◌, Option, Some, None, is_none, unwrap_or, Result, Ok, Err}
-use Rattle.std.specs.List.{position, sum}
+use Rattle.std.specs.Prelude.{codes, ℕ, ◌≡◌, ◌⊎◌, ◌+◌, List, [], ◌++◌, length, map, if◌then◌else◌, Option, Some, None, is_none, unwrap_or, Result, Ok, Err}
+use Rattle.std.specs.List.{sum}
 use Rattle.std.specs.Option.{option_map, option_or}
-use Rattle.std.specs.Str.{is_utf8, bytes_eq}
+use Rattle.std.specs.Str.{is_utf8}
 use Rattle.toml.specs.Data.{Members}
 use Rattle.toml.specs.Parse.{parse_document}
 use Rattle.addr_base.specs.Files.{file_at}
 use Rattle.addr_base.specs.declared.files.MemFile.{MemFile}
-use Rattle.addr_project.specs.declared.error.ExpandErr.{ExpandErr}
+use Rattle.addr_expansion.specs.declared.error.ExpandErr.{ExpandErr}
 use Rattle.addr_project.specs.declared.error.ProjectErr.{ProjectErr}
-use Rattle.addr_project.specs.declared.error.ProjectErr.TheVariants.{NoProject, BadToml, OverLimit, MissingFile, DepotFault, NoMemory}
+use Rattle.addr_project.specs.declared.error.ProjectErr.TheVariants.{NoProject, BadToml, MissingFile, DepotFault, NoMemory}
 use Rattle.addr_project.specs.declared.limit.Limit.TheVariants as limit
 use Rattle.addr_project.specs.declared.model.Asset.{Asset}
 use Rattle.addr_project.specs.declared.model.Entry.{Entry}
 use Rattle.addr_project.specs.declared.rows.AssetRow.{AssetRow}
 use Rattle.addr_project.specs.declared.rows.EntryRow.{EntryRow}
 use Rattle.addr_project.specs.declared.rows.ProjectFile.{ProjectFile}
-use Rattle.addr_project.specs.Expansion.{expanded}
+use Rattle.addr_expansion.specs.Expansion.{expanded}
 use Rattle.addr_project.specs.Faults.{over, guids_of, names_of, tree_fault}
-use Rattle.addr_project.specs.Firsts.{first_from, first_where, place_of}
+use Rattle.addr_project_rows.specs.Firsts.{first_from, first_where, place_of}
 use Rattle.addr_project.specs.Model.{Project}
 use Rattle.addr_project.specs.Rows.{file_of}
 

@@ -1,29 +1,17 @@
 -- The tables of a project file: what each row stands for, and what the file's top does.
-use Rattle.std.specs.Prelude.{codes, ℕ, List, [], Bool, true, false, Option, Some, None, unwrap_or}
+use Rattle.std.specs.Prelude.{codes, ℕ, List, [], Bool, false, Option, Some, None, unwrap_or}
 use Rattle.std.specs.List.{filter_map}
-use Rattle.toml.specs.Data.{Data, table, Members, no_members, get_member, as_bool, as_table}
+use Rattle.toml.specs.Data.{Data, table, Members, no_members, as_bool, as_table}
 use Rattle.addr_base.specs.declared.ids.Guid.{Guid}
-use Rattle.addr_base.specs.declared.var.Var.{Var}
 use Rattle.addr_project.specs.declared.model.Mode.{Mode}
 use Rattle.addr_project.specs.declared.model.Mode.TheVariants.{Together}
 use Rattle.addr_project.specs.declared.model.Group.{Group}
 use Rattle.addr_project.specs.declared.rows.AssetRow.{AssetRow}
 use Rattle.addr_project.specs.declared.rows.EntryRow.{EntryRow}
 use Rattle.addr_project.specs.declared.rows.ProjectFile.{ProjectFile}
-use Rattle.addr_project.specs.Fields.{field, text_where, is_within, text_of, is_version, is_name, is_file_name, guid_of, mode_of, rows_of, list_of, labels_of}
-
--- a required text of 1 to 255 bytes
-abbrev pub required : List ℕ → Members → Option (List ℕ)
-required key ms = field text_of None key ms
-
-abbrev pub variable_from : Option (List ℕ) → Option (List ℕ) → Option Var
-variable_from (Some name) (Some value) = Some (record { name = name; value = value })
-variable_from _ _ = None
-
--- a row `[[variable]]`
-abbrev pub variable_of : Data → Option Var
-variable_of (table ms) = variable_from (field (text_where is_name) None (codes "name") ms) (field (text_where (is_within 0 255)) None (codes "value") ms)
-variable_of _ = None
+use Rattle.addr_project_rows.specs.Fields.{field, required, text_where, text_of, is_version, is_file_name, guid_of, rows_of, list_of, labels_of}
+use Rattle.addr_project_rows.specs.Variables.{variable_of}
+use Rattle.addr_project.specs.Modes.{mode_of}
 
 abbrev pub group_from : Option (List ℕ) → Option Mode → Option Bool → Option Bool → Option Group
 group_from (Some name) (Some mode) (Some fixed) (Some remote) = Some (record { name = name; mode = mode; fixed = fixed; remote = remote })

@@ -1,5 +1,5 @@
 -- The top of a project file, read before its rows.
-use Rattle.std.specs.Prelude.{codes, ℕ, ◌≡◌, List, map, Option, Some, None}
+use Rattle.std.specs.Prelude.{codes, ◌≡◌, map, Option, Some, None}
 use Rattle.std.specs.Borrow.{Bor}
 use Rattle.std.specs.BTreeMap.{BTreeMap}
 use Rattle.std.specs.Global.{Global}

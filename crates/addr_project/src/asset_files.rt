@@ -11,9 +11,9 @@ use crate::error::ProjectErr;
 use crate::limit::Limit;
 use crate::loaded::Loaded;
 use crate::model::Asset;
-use crate::reader::row_number;
 use crate::rows::AssetRow;
 use addr_base::{Depot, Items, NoMemory, Text};
+use addr_project_rows::row_number;
 use std::alloc::Global;
 
 /// The most bytes of an asset's file.

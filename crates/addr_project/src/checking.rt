@@ -2,23 +2,23 @@
 ghost use Rattle.std.specs.Prelude.{◌≡◌, ◌⊎◌, Ok, map, IfOk, IfErr, IsOk};
 ghost use Rattle.toml.specs.View.{table_view};
 ghost use Rattle.addr_project.specs.Checked.{IsParts, IsChecked, AreTexts};
-ghost use Rattle.addr_project.specs.Extents.{answer_of};
+ghost use Rattle.addr_expansion.specs.Extents.{answer_of};
 ghost use Rattle.addr_project.specs.Faults.{tree_fault, file_fault, texts_fault};
-ghost use Rattle.addr_project.specs.Lookups.{keys_in};
+ghost use Rattle.addr_project_rows.specs.Lookups.{keys_in};
 ghost use Rattle.addr_project.specs.Reading.{entry_from};
 ghost use Rattle.addr_project.specs.Rows.{file_of};
 ghost use Rattle.addr_project.specs.declared.error.ProjectErr.TheVariants as faults;
 
 use crate::counts::count_fault;
 use crate::error::ProjectErr;
-use crate::extent::Extent;
 use crate::model::Entry;
 use crate::names::{Named, check_names};
 use crate::parts::{Checked, Parts, Texts};
 use crate::project_file::file_read;
-use crate::replies::{Replies, replies_of, text_fault};
 use crate::rows::{EntryRow, ProjectFile};
+use crate::text_faults::text_fault;
 use addr_base::{Items, NoMemory, Text};
+use addr_expansion::{Extent, Replies, replies_of};
 use std::alloc::Global;
 use toml::Table;
 
@@ -83,7 +83,12 @@ fn check_texts(alloc: Global, file: &ProjectFile) -> Result<Texts, ProjectErr>
     ensures ok { IfOk result (λ texts. (texts_fault file.now ≡ None) × AreTexts file.now texts) }
     ensures err { IfErr result (λ e. (e ≡ faults.NoMemory) ⊎ (texts_fault file.now ≡ Some e)) }
 {
-    let replies = replies_of(alloc, file)?;
+    let replies = replies_of(
+        alloc,
+        file.variables.as_slice(),
+        file.local.as_str(),
+        file.remote.as_str(),
+    )?;
     if let Some(fault) = text_fault(&replies)? {
         return Err(fault);
     }

@@ -2,7 +2,7 @@
 ghost use Rattle.std.specs.Prelude.{◌≡◌, ◌-◌, ◌^◌, min, map, length, List, ℕ};
 ghost use Rattle.std.specs.List.{sum_by};
 ghost use Rattle.addr_project.specs.Faults.{over, over_labels, over_refs, total_refs, count_fault};
-ghost use Rattle.addr_project.specs.Firsts.{first_of};
+ghost use Rattle.addr_project_rows.specs.Firsts.{first_of};
 
 use crate::error::ProjectErr;
 use crate::limit::Limit;

@@ -1,6 +1,11 @@
 // The parts of a project file, and the counts that have a greatest value. The last four are measured by the crates that
 // plan and build; they stand here so that every refusal names its limit by one type.
 
+ghost use Rattle.std.specs.Prelude.{◌≡◌};
+ghost use Rattle.addr_project.specs.Printed.{limit_text, part_text};
+
+use std::fmt;
+
 /// A table of the project file; `Project` is the file's top.
 #[derive(Clone, Copy, Debug, PartialEq, Eq)]
 pub enum Part {
@@ -10,6 +15,33 @@ pub enum Part {
     Group,
     Asset,
     Entry,
+}
+
+impl Part {
+    /// The word by which programs print the table.
+    pub fn text(&self) -> &'static str
+        ensures { result.now ≡ part_text self.now }
+    {
+        match self {
+            Part::Project => "project",
+            Part::Profile => "profile",
+            Part::Variable => "variable",
+            Part::Group => "group",
+            Part::Asset => "asset",
+            Part::Entry => "entry",
+        }
+    }
+}
+
+impl fmt::Display for Part {
+    ghost use Rattle.std.specs.Prelude.{Some};
+    ghost use Rattle.addr_project.specs.Printed.{part_text};
+
+    ghost output = { λ part. Some (part_text part) };
+
+    fn fmt<W: fmt::Write>(&self, f: &mut fmt::Formatter<W>) -> fmt::Result {
+        f.write_str(self.text())
+    }
 }
 
 /// What is counted against a greatest value.
@@ -39,4 +71,39 @@ pub enum Limit {
     Deps,
     /// The bytes of all built files.
     BundleBytes,
+}
+
+impl Limit {
+    /// The word by which programs print the limit.
+    pub fn text(&self) -> &'static str
+        ensures { result.now ≡ limit_text self.now }
+    {
+        match self {
+            Limit::Variables => "variables",
+            Limit::Groups => "groups",
+            Limit::Assets => "assets",
+            Limit::Entries => "entries",
+            Limit::Labels => "labels",
+            Limit::Refs => "refs",
+            Limit::AllRefs => "all-refs",
+            Limit::Expanded => "expanded",
+            Limit::AssetBytes => "asset-bytes",
+            Limit::AllBytes => "all-bytes",
+            Limit::BundleName => "bundle-name",
+            Limit::Members => "members",
+            Limit::Deps => "deps",
+            Limit::BundleBytes => "bundle-bytes",
+        }
+    }
+}
+
+impl fmt::Display for Limit {
+    ghost use Rattle.std.specs.Prelude.{Some};
+    ghost use Rattle.addr_project.specs.Printed.{limit_text};
+
+    ghost output = { λ limit. Some (limit_text limit) };
+
+    fn fmt<W: fmt::Write>(&self, f: &mut fmt::Formatter<W>) -> fmt::Result {
+        f.write_str(self.text())
+    }
 }

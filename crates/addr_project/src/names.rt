@@ -2,18 +2,16 @@
 ghost use Rattle.std.specs.Prelude.{◌≡◌, ◌⊎◌, IfOk, IfErr, OnOk};
 ghost use Rattle.std.specs.List.{position, list_any};
 ghost use Rattle.addr_project.specs.Faults.{is_reserved, lacks_group, lacks_ref, lacks_asset, guids_of, names_of, key_fault, link_fault, name_fault};
-ghost use Rattle.addr_project.specs.Firsts.{is_among};
-ghost use Rattle.addr_project.specs.Lookups.{keys_in};
+ghost use Rattle.addr_project_rows.specs.Firsts.{is_among};
+ghost use Rattle.addr_project_rows.specs.Lookups.{keys_in};
 ghost use Rattle.addr_project.specs.declared.error.ProjectErr.TheVariants as faults;
 
 use crate::error::ProjectErr;
-use crate::index::{Index, Indexed};
-use crate::keys::{first_repeat, index_rows};
 use crate::limit::Part;
 use crate::model::Group;
-use crate::reader::row_number;
 use crate::rows::{AssetRow, EntryRow};
 use addr_base::Guid;
+use addr_project_rows::{Index, Indexed, first_repeat, index_rows, row_number};
 use std::alloc::Global;
 
 /// The places of the assets' GUIDs and of the groups' names.

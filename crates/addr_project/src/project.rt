@@ -1,19 +1,19 @@
 // The type of a project. Its fields are private, so that each value keeps what the tests of reading found out.
 ghost use Rattle.std.specs.Prelude.{◌≡◌, ◌⊎◌, Ok, Err, IfOk, IfErr, IfSome};
 ghost use Rattle.addr_project.specs.Causes.{HasCause};
-ghost use Rattle.addr_project.specs.Expansion.{expanded};
+ghost use Rattle.addr_expansion.specs.Expansion.{expanded};
 ghost use Rattle.addr_project.specs.Kept.{IsKept};
 ghost use Rattle.addr_project.specs.Reading.{Reads};
-ghost use Rattle.addr_project.specs.declared.error.ExpandErr.TheVariants as expanding;
+ghost use Rattle.addr_expansion.specs.declared.error.ExpandErr.TheVariants as expanding;
 
 use crate::asset_files::read_assets;
 use crate::checking::parts_of;
 use crate::document::read_tree;
-use crate::error::{ExpandErr, ProjectErr};
-use crate::expanding;
+use crate::error::ProjectErr;
 use crate::model::{Asset, Entry, Group};
 use crate::parts::Parts;
 use addr_base::{Depot, Items, Text, Var};
+use addr_expansion::ExpandErr;
 use std::alloc::Global;
 use std::marker::Model;
 
@@ -149,7 +149,7 @@ impl Project {
         ensures ok { IfOk result (λ t. expanded self.now.variables text.now ≡ Ok t) }
         ensures err { IfErr result (λ e. (e ≡ expanding.NoMemory) ⊎ (expanded self.now.variables text.now ≡ Err e)) }
     {
-        let text = expanding::expand(alloc, self.variables.as_slice(), text)?;
+        let text = addr_expansion::expand(alloc, self.variables.as_slice(), text)?;
         Ok(text)
     }
 }

@@ -4,17 +4,17 @@ ghost use Rattle.std.specs.List.{filter_map};
 ghost use Rattle.std.specs.Option.{option_map, option_copied};
 ghost use Rattle.toml.specs.View.{view, table_view};
 ghost use Rattle.addr_project.specs.Faults.{head_fault, row_fault, field_fault, bad_row, bad_variable};
-ghost use Rattle.addr_project.specs.Rows.{version_of, profile_of, profile_text, profile, rows_at, rows, file_of, variable_of};
+ghost use Rattle.addr_project.specs.Rows.{version_of, profile_of, profile_text, profile, rows_at, rows, file_of};
+ghost use Rattle.addr_project_rows.specs.Variables.{variable_of};
 ghost use Rattle.addr_project.specs.Tables.{members_in, IsHead};
 ghost use Rattle.addr_project.specs.declared.error.ProjectErr.TheVariants as faults;
 
 use crate::error::ProjectErr;
 use crate::limit::Part;
 use crate::model::Group;
-use crate::reader::{Row, rows_read, variables_read};
 use crate::rows::{AssetRow, EntryRow, ProjectFile};
-use crate::{fields, texts};
 use addr_base::{Items, Text, Var};
+use addr_project_rows::{Row, fields, rows_read, texts, variables_read};
 use std::alloc::Global;
 use toml::{Table, Value};
 

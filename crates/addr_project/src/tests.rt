@@ -1,105 +1,160 @@
-// One row for each test of a project file: the earlier tests pass, and later ones fail too.
-use crate::checking::parts_of;
-use crate::{Part, ProjectErr};
-use std::process::Abort;
+// What no clause says: the tests of a folder in their order, each on a folder that passes the earlier ones and breaks later
+// ones too, as programs print them; a folder that is read; sizes.
+use crate::Project;
+use addr_base::{Items, MemDepot, MemFile, NoMemory, Text};
+use std::alloc::Global;
+use std::test::Fail;
 
 const ASSET: &str =
     "[[asset]]\nguid = '00000000000000000000000000000001'\ntype = 'T'\nfile = 'a'\n";
 
 const LOST: &str =
-    "[[asset]]\nguid = '00000000000000000000000000000002'\ntype = 'T'\nfile = 'b'\nrefs = ['00000000000000000000000000000009']\n";
+    "[[asset]]\nguid = '00000000000000000000000000000002'\ntype = 'T'\nfile = 'b'\nrefs = ['00000000000000000000000000000001']\n";
+
+const DANGLING: &str =
+    "[[asset]]\nguid = '00000000000000000000000000000003'\ntype = 'T'\nfile = 'b'\nrefs = ['00000000000000000000000000000009']\n";
 
 const GROUP: &str = "[[group]]\nname = 'Core'\n";
 
 const RESERVED: &str = "[[group]]\nname = 'Content Update'\n";
 
 const ENTRY: &str =
-    "[[entry]]\nguid = '00000000000000000000000000000001'\ngroup = 'Core'\naddress = 'x'\n";
+    "[[entry]]\nguid = '00000000000000000000000000000001'\ngroup = 'Core'\naddress = 'x'\nlabels = ['b', 'a', 'b']\n";
 
 const STRAY: &str =
     "[[entry]]\nguid = '00000000000000000000000000000005'\ngroup = 'None'\naddress = 'x'\n";
 
+const NOWHERE: &str =
+    "[[entry]]\nguid = '00000000000000000000000000000005'\ngroup = 'Core'\naddress = 'x'\n";
+
+const LABELS: &str =
+    "[[entry]]\nguid = '00000000000000000000000000000001'\ngroup = 'Core'\naddress = 'x'\nlabels = ['0', '1', '2', '3', '4', '5', '6', '7', '8', '9', '10', '11', '12', '13', '14', '15', '16', '17', '18', '19', '20', '21', '22', '23', '24', '25', '26', '27', '28', '29', '30', '31', '32', '32']\n";
+
 const ROUND: &str = "[[variable]]\nname = 'A'\nvalue = '[A]'\n";
 
-fn answers(rt: &(impl AllocGlobal + Abort), parts: &[&str], want: Option<ProjectErr>) {
-    let mut text = String::new(rt.alloc());
+const LONG: &str =
+    "[profile]\nlocal = '[C][C][C][C][C]'\n[[variable]]\nname = 'B'\nvalue = '0123456789ABCDEF'\n[[variable]]\nname = 'C'\nvalue = '[B][B][B][B][B][B][B][B][B][B][B][B][B][B][B][B]'\n";
+
+const HOST: &str =
+    "[profile]\nremote = '[Host]/remote'\n[[variable]]\nname = 'Host'\nvalue = 'http://127.0.0.1:8080'\n";
+
+// A depot with a project file and one asset's file.
+fn depot_of(
+    alloc: Global,
+    parts: &[&str],
+    asset: Vec<u8>,
+    fail: u32,
+) -> Result<MemDepot, NoMemory> {
+    let mut text = String::new(alloc);
     for part in parts {
-        let pushed = text.push_str(part);
-        assert!(rt; pushed.is_ok(), "memory");
+        text.push_str(part)?;
     }
-    let found = match toml::table_from_str(rt.alloc(), text.as_str()) {
-        Ok(tree) => parts_of(rt.alloc(), &tree).err(),
-        Err(_) => Some(ProjectErr::BadToml),
-    };
-    assert!(rt; found == want, "{text}");
+    let mut files = Vec::new(alloc);
+    files.push(MemFile {
+        name: Text::copy_of(alloc, "F/project.toml")?,
+        bytes: Items::copy_of(alloc, text.as_bytes())?,
+    })?;
+    files.push(MemFile {
+        name: Text::copy_of(alloc, "F/a")?,
+        bytes: Items::from_vec(asset),
+    })?;
+    Ok(MemDepot::new(files, Vec::from_slice(alloc, &[fail])?))
 }
 
 #[test]
-fn first_broken_test_is_answered(rt: HostRuntime) {
-    answers(&rt, &[], None);
-    answers(&rt, &["="], Some(ProjectErr::BadToml));
-    answers(
-        &rt,
-        &["group = 3\n[profile]\nlocal = ''\n"],
-        Some(ProjectErr::BadField {
-            table: Part::Project,
-            row: 0,
-        }),
-    );
-    answers(
-        &rt,
-        &["[profile]\nlocal = ''\n", ROUND, ROUND],
-        Some(ProjectErr::BadField {
-            table: Part::Profile,
-            row: 0,
-        }),
-    );
-    answers(
-        &rt,
-        &[ROUND, ROUND, ASSET, ASSET],
-        Some(ProjectErr::BadField {
-            table: Part::Variable,
-            row: 1,
-        }),
-    );
-    answers(
-        &rt,
-        &[ASSET, ASSET, GROUP, GROUP],
-        Some(ProjectErr::DuplicateGuid {
-            table: Part::Asset,
-            row: 1,
-        }),
-    );
-    answers(
-        &rt,
-        &[GROUP, GROUP, RESERVED],
-        Some(ProjectErr::DuplicateGroup { row: 1 }),
-    );
-    answers(
-        &rt,
-        &[GROUP, RESERVED, STRAY],
-        Some(ProjectErr::ReservedGroup { row: 1 }),
-    );
-    answers(
-        &rt,
-        &[GROUP, ASSET, LOST, ENTRY, STRAY],
-        Some(ProjectErr::UnknownGroup { row: 1 }),
-    );
-    answers(
-        &rt,
-        &[ASSET, LOST, ROUND],
-        Some(ProjectErr::UnknownRef {
-            table: Part::Asset,
-            row: 1,
-        }),
-    );
-    answers(
-        &rt,
-        &["[profile]\nremote = '[B]'\n", ROUND],
-        Some(ProjectErr::BadVariable {
-            table: Part::Profile,
-            row: 0,
-        }),
-    );
-    answers(&rt, &[ROUND], Some(ProjectErr::VariableCycle { row: 0 }));
+fn first_broken_test_is_answered(rt: HostRuntime) -> Result<(), Fail> {
+    let cases: [(&str, &[&str], u32, &str); 21] = [
+        ("F", &[], 0, ""),
+        ("G", &["="], 0, "1 - 0"),
+        ("F", &["="], 0, "2 - 0"),
+        ("F", &[ASSET], 1, "13 - 0"),
+        ("F", &[ASSET, LOST], 2, "13 - 0"),
+        (
+            "F",
+            &["group = 3\n[profile]\nlocal = ''\n"],
+            0,
+            "3 project 0",
+        ),
+        (
+            "F",
+            &["[profile]\nlocal = ''\n", ROUND, ROUND],
+            0,
+            "3 profile 0",
+        ),
+        ("F", &[ROUND, ROUND, LABELS], 0, "3 variable 1"),
+        ("F", &[LABELS, LABELS], 0, "11 labels 33"),
+        ("F", &[ASSET, ASSET, ENTRY, ENTRY], 0, "4 asset 1"),
+        ("F", &[ASSET, ENTRY, ENTRY, GROUP, GROUP], 0, "4 entry 1"),
+        ("F", &[GROUP, GROUP, RESERVED], 0, "5 group 1"),
+        ("F", &[GROUP, RESERVED, STRAY], 0, "12 group 1"),
+        ("F", &[GROUP, ASSET, ENTRY, STRAY, DANGLING], 0, "6 entry 1"),
+        (
+            "F",
+            &[GROUP, NOWHERE, ASSET, DANGLING, ROUND],
+            0,
+            "7 asset 1",
+        ),
+        ("F", &[GROUP, NOWHERE, ASSET, ROUND], 0, "7 entry 0"),
+        (
+            "F",
+            &["[profile]\nremote = '[B]'\n", ROUND],
+            0,
+            "9 profile 0",
+        ),
+        (
+            "F",
+            &[LONG, "[[variable]]\nname = 'D'\nvalue = '[A'\n", ROUND],
+            0,
+            "9 variable 2",
+        ),
+        ("F", &[LONG, ROUND, ASSET, LOST], 0, "10 variable 2"),
+        ("F", &[LONG, ASSET, LOST], 0, "11 expanded 1280"),
+        ("F", &[ASSET, LOST], 0, "8 asset 1"),
+    ];
+    for (folder, parts, fail, want) in cases {
+        let asset = Vec::from_slice(rt.alloc(), b"A")?;
+        let mut depot = depot_of(rt.alloc(), parts, asset, fail)?;
+        let line = match Project::read(rt.alloc(), &mut depot, folder) {
+            Ok(_) => String::new(rt.alloc()),
+            Err(fault) => format!(in rt.alloc(); "{fault}")?,
+        };
+        assert_eq!(rt; line.as_str(), want);
+    }
+    Ok(())
+}
+
+// The project of a good folder.
+fn good(rt: &HostRuntime) -> Result<Project, Fail> {
+    let asset = Vec::from_slice(rt.alloc(), b"A")?;
+    let mut depot = depot_of(rt.alloc(), &[HOST, GROUP, ASSET, ENTRY], asset, 0)?;
+    match Project::read(rt.alloc(), &mut depot, "F") {
+        Ok(project) => Ok(project),
+        Err(_) => Err("the folder is read".into()),
+    }
+}
+
+#[test]
+fn texts_of_a_good_folder(rt: HostRuntime) -> Result<(), Fail> {
+    let project = good(&rt)?;
+    assert_eq!(rt; project.version(), "2021.3.0f1");
+    assert_eq!(rt; project.local(), "local");
+    assert_eq!(rt; project.remote(), "http://127.0.0.1:8080/remote");
+    match project.expand(rt.alloc(), "<[Host]>") {
+        Ok(text) => assert_eq!(rt; text.as_str(), "<http://127.0.0.1:8080>"),
+        Err(_) => assert!(rt; false),
+    }
+    Ok(())
+}
+
+#[test]
+fn rows_of_a_good_folder(rt: HostRuntime) -> Result<(), Fail> {
+    let project = good(&rt)?;
+    assert_eq!(rt; (project.variables().len(), project.groups().len()), (1, 1));
+    for asset in project.assets() {
+        assert!(rt; asset.bytes.as_slice() == b"A".as_slice());
+    }
+    for entry in project.entries() {
+        assert_eq!(rt; (entry.asset, entry.group, entry.labels.len()), (0, 0, 2));
+    }
+    Ok(())
 }

@@ -1,13 +1,13 @@
 -- The replies to commands, and the line that each is printed as.
 use Rattle.std.specs.Prelude.{ℕ, List, ◌∷◌, ◌++◌, Some, None, codes, decimal}
-use Rattle.addr_core.specs.declared.answers.BundleState.{BundleState}
-use Rattle.addr_core.specs.declared.answers.BundleState.TheVariants.{Resident, Fetching, Queued, Absent}
-use Rattle.addr_core.specs.declared.answers.Next.{Next}
-use Rattle.addr_core.specs.declared.answers.Next.TheVariants.{Bundle, Idle, End}
-use Rattle.addr_core.specs.declared.answers.OpStatus.{OpStatus}
-use Rattle.addr_core.specs.declared.answers.OpStatus.TheVariants.{Pending, Ready, Failed}
-use Rattle.addr_core.specs.declared.answers.Settled.{Settled}
-use Rattle.addr_core.specs.declared.answers.Settled.TheVariants.{Kept, Dropped}
+use Rattle.addr_history.specs.declared.answers.BundleState.{BundleState}
+use Rattle.addr_history.specs.declared.answers.BundleState.TheVariants.{Resident, Fetching, Queued, Absent}
+use Rattle.addr_history.specs.declared.answers.Next.{Next}
+use Rattle.addr_history.specs.declared.answers.Next.TheVariants.{Bundle, Idle, End}
+use Rattle.addr_history.specs.declared.answers.OpStatus.{OpStatus}
+use Rattle.addr_history.specs.declared.answers.OpStatus.TheVariants.{Pending, Ready, Failed}
+use Rattle.addr_history.specs.declared.answers.Settled.{Settled}
+use Rattle.addr_history.specs.declared.answers.Settled.TheVariants.{Kept, Dropped}
 use Rattle.addr_script.specs.Causes.{cause_text}
 use Rattle.addr_script.specs.declared.reply.Reply.{Reply}
 use Rattle.addr_script.specs.declared.reply.Reply.TheVariants.{Opened, NoLocation, JournalFull, Closed, Released, NoHandle, Status, Next as NextReply, Settled as SettledReply, NotTaken, Noted, NowClosed, Counted, NoBundle}

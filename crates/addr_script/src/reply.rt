@@ -4,7 +4,7 @@ ghost use Rattle.addr_script.specs.Causes.{layer_word};
 ghost use Rattle.addr_script.specs.Replies.{settled_word, state_word};
 
 use addr_base::{Cause, Layer, OpId, Text};
-use addr_core::{BundleState, Next, OpStatus, Settled};
+use addr_history::{BundleState, Next, OpStatus, Settled};
 use std::fmt;
 
 /// What a command is answered.

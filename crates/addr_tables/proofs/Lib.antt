@@ -7,3 +7,5 @@ pub mod SectionLemmas
 pub mod RowLemmas
 pub mod WholeLemmas
 pub mod WrittenLemmas
+pub mod BackLemmas
+pub mod DecodedLemmas

@@ -29,7 +29,7 @@ all_middle : {A : Type 0} (P : A → Type 0) (xs : List A) (y : A) (ys : List A)
 all_middle P [] y ys all = all.0
 all_middle P (x ∷ xs) y ys all = all_middle P xs y ys all.1
 
-all_more : {A : Type 0} (P : A → Type 0) (xs : List A) (y : A) → AllByRecursion P xs → P y → AllByRecursion P (xs ++ y ∷ [])
+pub all_more : {A : Type 0} (P : A → Type 0) (xs : List A) (y : A) → AllByRecursion P xs → P y → AllByRecursion P (xs ++ y ∷ [])
 all_more P [] y all last = (last, tt)
 all_more P (x ∷ xs) y all last = (all.0, all_more P xs y all.1 last)
 
@@ -140,6 +140,9 @@ keys_taken bytes count before (b ∷ bs) all fits distinct e =
       placed = (g.0, rest.placed);
     }
 
+pub all_keys : (bytes : List ℕ) (count : ℕ) (bs : List Bucket) (all : List Key) → MoreKeys bytes count [] bs all → Beside (IsKeyOf bytes) bs all
+all_keys bytes count bs all found = subst (Beside (IsKeyOf bytes) bs) (sym found.all_are) found.keys
+
 -- ---- the row of an entry
 
 named_again : (tables : Tables) (keys : ℕ) (e : Fields) → AreNamed tables keys e → bad_field tables.internals tables.providers keys tables.kinds e ≡ None
@@ -229,3 +232,6 @@ entries_taken tables extras keys before (f ∷ fs) all fits e =
       all_are = rest.all_are ∙ append_assoc before (a.0 ∷ []) rest.more;
       rows = (entry_taken tables extras keys (length before) f a.0 fits a.1, rest.rows);
     }
+
+pub all_rows : (tables : Tables) (extras : List ℕ) (keys : ℕ) (es : List Fields) (all : List EntryRow) → MoreRows tables extras keys [] es all → Beside (IsRow tables extras keys) es all
+all_rows tables extras keys es all found = subst (Beside (IsRow tables extras keys) es) (sym found.all_are) found.rows

@@ -147,7 +147,7 @@ unfolding fields_of
 fields_again [] = refl
 fields_again (e ∷ es) = ap fields_of (flat_map-cons field_numbers e es) ∙ ap (λ (l : List Fields). e ∷ l) (fields_again es)
 
-seven_each : (es : List Fields) → length (flat_map field_numbers es) ≡ 7 * length es
+pub seven_each : (es : List Fields) → length (flat_map field_numbers es) ≡ 7 * length es
 seven_each [] = refl
 seven_each (e ∷ es) = let other = seven_each es in ap length (flat_map-cons field_numbers e es) ∙ omega arith
 

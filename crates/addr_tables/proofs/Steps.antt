@@ -1,5 +1,5 @@
 -- One step after another, and numbers in bytes both ways.
-use Rattle.std.proofs.Common.{◌≡◌, ℕ, zero, suc, ◌%◌, ◌^◌, ◌<◌, Bool, true, false, cond, List, [], ◌∷◌, ◌++◌, length, get_or, Result, Ok, Err, refl, sym, ap, subst, ◌∙◌, arith}
+use Rattle.std.proofs.Common.{◌≡◌, ℕ, zero, suc, ◌%◌, ◌^◌, ◌<◌, Bool, true, false, cond, List, [], ◌∷◌, ◌++◌, length, Result, Ok, Err, refl, sym, ap, subst, ◌∙◌, arith}
 use Rattle.std.specs.Prelude.{◌&&◌}
 use Rattle.std.specs.List.{flat_map}
 use Rattle.std.specs.Int.{w32, to_le_bytes, from_le_bytes}
@@ -9,6 +9,7 @@ use Rattle.base64.specs.GeneralPurpose.{decode_of, encode_of, IsBytes}
 use Rattle.base64.specs.Engines.{standard}
 use Rattle.base64.specs.declared.decode.DecodeError.{DecodeError}
 use Rattle.base64.proofs.EngineFacts.{IsAscii-encode_of, decode_of-encode_of, decode_of_strict}
+use Rattle.addr_keys.proofs.PlaceLemmas.{IsBytes-append, four_bytes}
 use Rattle.addr_tables.specs.declared.error.TableErr.{TableErr}
 use Rattle.addr_tables.specs.Format.{table_of}
 use Rattle.addr_tables.specs.Faults.{◌>>=◌, bytes_or, text_bytes, numbers_of}
@@ -104,18 +105,6 @@ numbers_small (a ∷ []) fits = tt
 numbers_small (a ∷ b ∷ []) fits = tt
 numbers_small (a ∷ b ∷ c ∷ []) fits = tt
 numbers_small (a ∷ b ∷ c ∷ d ∷ rest) fits = (omega (arith, fits 0, fits 1, fits 2, fits 3), numbers_small rest (λ i. fits (suc (suc (suc (suc i))))))
-
-four_bytes : (n : ℕ) (i : ℕ) → get_or (to_le_bytes w32 n) i 0 < 256
-four_bytes n zero = omega arith
-four_bytes n (suc zero) = omega arith
-four_bytes n (suc (suc zero)) = omega arith
-four_bytes n (suc (suc (suc zero))) = omega arith
-four_bytes n (suc (suc (suc (suc i)))) = omega arith
-
-IsBytes-append : (xs ys : List ℕ) → IsBytes xs → IsBytes ys → IsBytes (xs ++ ys)
-IsBytes-append [] ys p q i = q i
-IsBytes-append (x ∷ xs) ys p q zero = p 0
-IsBytes-append (x ∷ xs) ys p q (suc i) = IsBytes-append xs ys (λ k. p (suc k)) q i
 
 pub IsBytes-table : (ns : List ℕ) → IsBytes (table_of ns)
 unfolding table_of

@@ -14,10 +14,10 @@ use Rattle.addr_tables.specs.declared.parts.Bucket.{Bucket}
 use Rattle.addr_tables.specs.declared.parts.Parts.{Parts}
 use Rattle.addr_tables.specs.Format.{bucket_table, entry_table, is_within}
 use Rattle.addr_tables.specs.Faults.{Gives, text_bytes, key_count, buckets_of, entries_of, parts_of, keys_read, entries_read, numbers_in, rows_read}
-use Rattle.addr_tables.specs.Rows.{Beside, IsKeyOf, IsRow, IsPlaced, AreSpelled, AreTexts, StandFor}
+use Rattle.addr_tables.specs.Rows.{IsPlaced, AreSpelled, AreTexts, StandFor}
 use Rattle.addr_tables.proofs.Steps.{bind_ok, ok_is, chosen, text_taken, text_again, IsBytes-table}
 use Rattle.addr_tables.proofs.SectionLemmas.{IsFew, bucket_table_taken, bucket_table_again, entry_table_taken, entry_table_again, key_count_taken, key_count_again}
-use Rattle.addr_tables.proofs.RowLemmas.{keys_again, keys_taken, entries_again, entries_taken}
+use Rattle.addr_tables.proofs.RowLemmas.{keys_again, keys_taken, all_keys, all_rows, entries_again, entries_taken}
 
 -- ---- the parts
 
@@ -94,11 +94,11 @@ is_found tables rows texts e =
     subst (StandFor tables) (ok_is made rows r.2) (record {
       parts = parts;
       spelled = t.spelled;
-      keys = subst (Beside (IsKeyOf parts.keys) parts.buckets) (sym keys.all_are) keys.keys;
+      keys = all_keys parts.keys (length parts.entries) parts.buckets k.0 keys;
       distinct = keys.distinct;
       placed = both_placed (length parts.entries) parts.buckets t.few keys.placed;
       buckets = refl;
-      entries = subst (Beside (IsRow tables parts.extras (length k.0)) parts.entries) (sym entries.all_are) entries.rows;
+      entries = all_rows tables parts.extras (length k.0) parts.entries r.0 entries;
     })
 
 pub found_of : (tables : Tables) (r : Result Rows TableErr) → IfOk r (λ _. AreTexts tables) → Gives (λ x. x) r (rows_read tables) → IfOk r (λ rows. StandFor tables rows)

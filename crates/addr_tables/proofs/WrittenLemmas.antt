@@ -12,6 +12,8 @@ use Rattle.addr_tables.specs.declared.rows.EntryRow.{EntryRow}
 use Rattle.addr_tables.specs.declared.parts.Bucket.{Bucket}
 use Rattle.addr_tables.specs.declared.parts.Fields.{Fields}
 use Rattle.addr_tables.specs.Format.{table_of, bucket_numbers, field_numbers, bucket_table, entry_table}
+use Rattle.addr_tables.proofs.SectionLemmas.{seven_each}
+use Rattle.addr_tables.proofs.RowLemmas.{all_more}
 use Rattle.addr_tables.specs.Written.{key_bytes, buckets_from, extra_text, fields_at, fields_from, IsGoodRow}
 
 regroup : (a x y z : List ℕ) → ((a ++ x) ++ y) ++ z ≡ a ++ (x ++ (y ++ z))
@@ -44,10 +46,6 @@ unfolding table_of
 length-table [] = refl
 length-table (n ∷ ns) = let other = length-table ns in ap length (flat_map-cons (to_le_bytes w32) n ns) ∙ omega arith
 
-all_take_more : {A : Type 0} (P : A → Type 0) (xs : List A) (y : A) → AllByRecursion P xs → P y → AllByRecursion P (xs ++ y ∷ [])
-all_take_more P [] y all last = (last, tt)
-all_take_more P (x ∷ xs) y all last = (all.0, all_take_more P xs y all.1 last)
-
 all_taken : {A : Type 0} (P : A → Type 0) (xs : List A) (i : ℕ) → length xs ≤ i → AllByRecursion P (take i xs) → AllByRecursion P xs
 all_taken P [] i le all = tt
 all_taken P (x ∷ xs) zero le all = absurd (omega arith)
@@ -67,7 +65,7 @@ length-buckets at [] (ns ∷ nss) same = refl
 length-buckets at (k ∷ ks) [] same = absurd (omega arith)
 length-buckets at (k ∷ ks) (ns ∷ nss) same = ap suc (length-buckets (at + length (key_text k)) ks nss (omega arith))
 
-two_each : (bs : List Bucket) → 2 * length bs ≤ length (flat_map bucket_numbers bs)
+pub two_each : (bs : List Bucket) → 2 * length bs ≤ length (flat_map bucket_numbers bs)
 two_each [] = omega arith
 two_each (b ∷ bs) = let len = ap length (flat_map-cons bucket_numbers b bs) in let sum = length-append (bucket_numbers b) (flat_map bucket_numbers bs) in omega (arith, two_each bs)
 
@@ -116,7 +114,7 @@ writing_more keys nss i kt bt kt2 bt2 key ns lt same is numbers-is second first 
           ∙ ap (λ (x : List ℕ). x ++ table_of (flat_map bucket_numbers rest)) second ∙ append_assoc bt (table_of (length kt ∷ length ns ∷ ns)) (table_of (flat_map bucket_numbers rest))
           ∙ ap (λ (x : List ℕ). bt ++ x) (sym (table-append (length kt ∷ length ns ∷ ns) (flat_map bucket_numbers rest)) ∙ ap table_of (sym (first_bucket (length kt) i keys nss key ns lt same is numbers-is)))
           ∙ so_far.left_buckets;
-      forms = subst (AllByRecursion (λ k. IsForm k (key_text k))) (sym (take_more keys i key lt ∙ ap (λ (x : Key). take i keys ++ x ∷ []) (sym is))) (all_take_more (λ k. IsForm k (key_text k)) (take i keys) key so_far.forms form);
+      forms = subst (AllByRecursion (λ k. IsForm k (key_text k))) (sym (take_more keys i key lt ∙ ap (λ (x : Key). take i keys ++ x ∷ []) (sym is))) (all_more (λ k. IsForm k (key_text k)) (take i keys) key so_far.forms form);
     }
 
 -- what is left to write takes no more than the whole
@@ -159,10 +157,6 @@ pub length-fields : (at : ℕ) (rows : List EntryRow) → length (fields_from at
 unfolding fields_from
 length-fields at [] = refl
 length-fields at (row ∷ rows) = ap suc (length-fields (at + length (extra_text row)) rows)
-
-seven_each : (es : List Fields) → length (flat_map field_numbers es) ≡ 7 * length es
-seven_each [] = refl
-seven_each (e ∷ es) = let other = seven_each es in ap length (flat_map-cons field_numbers e es) ∙ omega arith
 
 pub entries_few : (rows : List EntryRow) → length (entry_table (fields_from 0 rows)) < 2 ^ 31 → length rows < 2 ^ 31
 unfolding entry_table
@@ -208,7 +202,7 @@ rows_more rows i et xt et2 xt2 row lt is first second good so_far =
           ∙ so_far.left_rows;
       left_extras = ap (λ (x : List ℕ). x ++ flat_map extra_text (drop (i + 1) rows)) second ∙ append_assoc xt (extra_text row) (flat_map extra_text (drop (i + 1) rows))
           ∙ ap (λ (x : List ℕ). xt ++ x) (sym (ap (flat_map extra_text) k ∙ flat_map-cons extra_text row (drop (i + 1) rows))) ∙ so_far.left_extras;
-      good = subst (AllByRecursion IsGoodRow) (sym (take_more rows i row lt ∙ ap (λ (x : EntryRow). take i rows ++ x ∷ []) (sym is))) (all_take_more IsGoodRow (take i rows) row so_far.good good);
+      good = subst (AllByRecursion IsGoodRow) (sym (take_more rows i row lt ∙ ap (λ (x : EntryRow). take i rows ++ x ∷ []) (sym is))) (all_more IsGoodRow (take i rows) row so_far.good good);
     }
 
 pub rows_small : (rows : List EntryRow) (i : ℕ) (et xt : List ℕ) → length (flat_map extra_text rows) < 2 ^ 31 → WritingRows rows i et xt → length xt < 2 ^ 31

@@ -1,12 +1,14 @@
 // From rows to tables: the objects are written one after the other, and the place of each goes into its bucket or entry as it
 // is written, so that nothing is written twice or changed behind.
-ghost use Rattle.std.specs.Prelude.{◌≡◌, ◌++◌, ◌∷◌, [], ℕ, ◌<◌, ◌+◌, ◌^◌, List, length, vec_len, IfOk, OnOk, FitsSigned};
+ghost use Rattle.std.specs.Prelude.{◌≡◌, ◌++◌, ◌∷◌, [], ℕ, ◌<◌, ◌+◌, ◌^◌, List, length, vec_len, IfOk, OnOk, Ok, FitsSigned};
 ghost use Rattle.std.specs.List.{flat_map, AllByRecursion};
 ghost use Rattle.std.specs.Int.{w32, to_le_bytes};
 ghost use Rattle.base64.specs.GeneralPurpose.{encode_of};
 ghost use Rattle.base64.specs.Engines.{standard};
 ghost use Rattle.addr_keys.specs.Format.{key_text, IsForm, IsWritable};
 ghost use Rattle.addr_tables.specs.Format.{table_of, bucket_numbers, field_numbers, bucket_table, entry_table};
+ghost use Rattle.addr_tables.specs.Faults.{rows_read};
+ghost use Rattle.addr_tables.specs.Rows.{StandFor};
 ghost use Rattle.addr_tables.specs.Written.{key_bytes, buckets_from, option_text, extra_text, fields_at, fields_from, written, CanEncode, IsExtraWritable, HasForm, IsGoodRow};
 
 use crate::parts::Fields;
@@ -146,9 +148,8 @@ fn text_of(alloc: Global, bytes: &[u8]) -> Result<Text, NoMemory>
     Ok(Text::from_string(text))
 }
 
-/// The tables of the rows: keys in order without gaps, and an extra object for each entry that has one, in order.
 #[tactic(auto, unfolding(crate::specs::Written::written))]
-pub fn encode(
+fn tables_of(
     alloc: Global,
     rows: &Rows,
     internals: u32,
@@ -156,7 +157,9 @@ pub fn encode(
     kinds: u32,
 ) -> Result<Tables, NoMemory>
     requires { CanEncode rows.now internals providers kinds }
-    ensures { IfOk result (λ tables. tables ≡ written rows.now internals providers kinds) }
+    ensures written { IfOk result (λ tables. tables ≡ written rows.now internals providers kinds) }
+    ensures forms { OnOk result (AllByRecursion (λ k. IsForm k (key_text k)) rows.now.keys) }
+    ensures good { OnOk result (AllByRecursion IsGoodRow rows.now.entries) }
 {
     let (keys, buckets) = key_tables(alloc, rows.keys.as_slice(), rows.buckets.as_slice())?;
     let (entries, extras) = entry_tables(alloc, rows.entries.as_slice())?;
@@ -169,4 +172,23 @@ pub fn encode(
         providers,
         kinds,
     })
+}
+
+/// The tables of the rows: keys in order without gaps, and an extra object for each entry that has one, in order.
+pub fn encode(
+    alloc: Global,
+    rows: &Rows,
+    internals: u32,
+    providers: u32,
+    kinds: u32,
+) -> Result<Tables, NoMemory>
+    requires { CanEncode rows.now internals providers kinds }
+    // The answered tables are the one written form of the rows.
+    ensures written { IfOk result (λ tables. tables ≡ written rows.now internals providers kinds) }
+    // The tables stand for the rows.
+    ensures stand { IfOk result (λ tables. StandFor tables rows.now) }
+    // So decoding gives back the rows that were encoded.
+    ensures again { IfOk result (λ tables. rows_read tables ≡ Ok rows.now) }
+{
+    tables_of(alloc, rows, internals, providers, kinds)
 }

@@ -7,7 +7,7 @@ use addr_base::NoMemory;
 use std::alloc::{AllocError, AllocFailed};
 
 /// The first test that fails, or that memory was refused. `which` is 0 for the key table, 1 bucket, 2 entry, 3 extra.
-#[derive(Clone, Copy, Debug)]
+#[derive(Clone, Copy, Debug, PartialEq, Eq)]
 pub enum TableErr {
     /// The text isn't an encoding in base64 with padding.
     Base64 { which: u8 },

@@ -1,23 +1,17 @@
-use Rattle.std.proofs.Common.{◌+◌}
-use Rattle.addr_cab.proofs.CabLaws.{nodes_fit, all_inside}
+use Rattle.std.proofs.Common.{arith}
+use Rattle.addr_cab.proofs.HoldLaws.{all_found, only, first_fault}
 use Rattle.addr_cab.proofs.TableLaws.{is_read}
 use Rattle.addr_cab.proofs.cab.read_cab.Goals as goal
 
-pub invariant_of-result : goal.invariant_of-result
-invariant_of-result c =
-    let b = c.args.bundle.now in
-    let fit = nodes_fit c.args.file.items b c.in-Some.nodes.name c.in-Some.nodes.table.now c.in-Some.nodes.content.now c.requires c.in-Some.ensures in
-    rw c.from_vec.ensures (record {
-      ascend = c.in_ok-rows.ensures.text.ascend;
-      within = all_inside (b.start + c.in-Some.nodes.content.now.offset) c.in-Some.nodes.content.now.size _ c.in_ok-rows.rows.items fit.1 c.in_ok-rows.ensures.within;
-      few = c.in_ok-rows.ensures.few;
-    })
+pub returns-clause-found : goal.returns-clause-found
+returns-clause-found c = all_found c.args.file.items c.args.bundle.now c.cab_of.result c.requires c.cab_of.ensures.exact c.cab_of.ensures.text
 
-pub returns-in_default-clause-law : goal.returns-in_default-clause-law
-returns-in_default-clause-law c = is_read
-
-pub returns-in_err-rows-clause-law : goal.returns-in_err-rows-clause-law
-returns-in_err-rows-clause-law c = is_read
+pub returns-clause-only : goal.returns-clause-only
+returns-clause-only c = λ name objects held.
+    only c.args.file.items c.args.bundle.now c.cab_of.result name objects (omega (arith, c.args.file.small, c.args.file.ok)) c.requires c.cab_of.ensures.exact held
 
 pub returns-clause-law : goal.returns-clause-law
 returns-clause-law c = is_read
+
+pub returns-clause-fault : goal.returns-clause-fault
+returns-clause-fault c = λ e fault. first_fault c.args.file.items c.args.bundle.now c.cab_of.result e c.cab_of.ensures.exact fault

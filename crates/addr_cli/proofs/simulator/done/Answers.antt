@@ -1,4 +1,4 @@
-use Rattle.std.proofs.Common.{ap, sym, ◌∙◌, refl}
+use Rattle.std.proofs.Common.{ap, sym}
 use Rattle.addr_script.specs.declared.reply.Reply.TheVariants.{Settled, NotTaken}
 use Rattle.addr_cli.specs.SimText.{done_answer}
 use Rattle.addr_cli.proofs.PlayLemmas.{done_plays}

@@ -1,4 +1,4 @@
-use Rattle.std.proofs.Common.{◌≡◌, ◌≤◌, ◌<◌, ◌∙◌, ◌+◌, ◌∷◌, [], List, sym, ap, subst, drop, string_bytes, length, get_or}
+use Rattle.std.proofs.Common.{◌≤◌, ◌<◌, ◌∙◌, ◌+◌, ◌∷◌, [], List, sym, ap, subst, drop, string_bytes, length, get_or}
 use Rattle.std.proofs.lemmas.List.{drop_more, drop_all}
 use Rattle.addr_script.specs.declared.command.Command.{Command}
 use Rattle.addr_cli.specs.Outcome.{limit_of}

@@ -1,5 +1,5 @@
 use Rattle.std.proofs.Common.{◌≡◌, drop}
-use Rattle.addr_core.specs.Status.{first_failure}
+use Rattle.addr_history.specs.Status.{first_failure}
 use Rattle.addr_core.proofs.past.first_failure.Given as goal
 
 abbrev pub invariant-loop-e : goal.invariant-loop-e

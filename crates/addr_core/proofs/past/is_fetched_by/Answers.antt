@@ -1,5 +1,5 @@
 use Rattle.std.proofs.Common.{sym, ap, ◌∙◌, ◌&&◌, ◌||◌, not}
-use Rattle.addr_core.specs.Events.{is_end_of, is_take_by}
+use Rattle.addr_history.specs.Events.{is_end_of, is_take_by}
 use Rattle.addr_core.proofs.Walking.{fetched_by_none, fetched_by_more}
 use Rattle.addr_core.proofs.past.is_fetched_by.Goals as goal
 

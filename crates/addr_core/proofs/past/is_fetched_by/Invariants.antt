@@ -1,5 +1,5 @@
 use Rattle.std.proofs.Common.{◌≡◌, take}
-use Rattle.addr_core.specs.Places.{is_fetched_by}
+use Rattle.addr_history.specs.Places.{is_fetched_by}
 use Rattle.addr_core.proofs.past.is_fetched_by.Given as goal
 
 abbrev pub invariant-loop-e : goal.invariant-loop-e

@@ -1,5 +1,5 @@
 use Rattle.std.proofs.Common.{◌≡◌, drop}
-use Rattle.addr_core.specs.Status.{since_load}
+use Rattle.addr_history.specs.Status.{since_load}
 use Rattle.addr_core.proofs.past.since_load.Given as goal
 
 abbrev pub invariant-loop-i : goal.invariant-loop-i

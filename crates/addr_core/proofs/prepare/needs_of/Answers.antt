@@ -1,7 +1,7 @@
 use Rattle.std.proofs.Common.{◌∙◌, ap, arith, length, List, take, if◌then◌else◌}
 use Rattle.addr_base.specs.declared.ids.RowNo.{RowNo}
 use Rattle.addr_locate.specs.Merge.{deps_of}
-use Rattle.addr_core.specs.Events.{needs_of}
+use Rattle.addr_history.specs.Events.{needs_of}
 use Rattle.addr_core.proofs.Preparing.{few_needs}
 use Rattle.addr_core.proofs.prepare.needs_of.Goals as goal
 

@@ -1,8 +1,8 @@
 use Rattle.std.proofs.Common.{◌∙◌, ◌≡◌, ap, sym, List, Option, Err}
 use Rattle.addr_base.specs.declared.ids.KeyNo.{KeyNo}
 use Rattle.addr_locate.specs.Merge.{merged}
-use Rattle.addr_core.specs.Answers.{is_none}
-use Rattle.addr_core.specs.declared.error.LoadErr.TheVariants.{NoLocation}
+use Rattle.addr_history.specs.Answers.{is_none}
+use Rattle.addr_history.specs.declared.error.LoadErr.TheVariants.{NoLocation}
 use Rattle.addr_core.proofs.Preparing.{reply_closed, reply_none, reply_full, reply_ok, needed_is}
 use Rattle.addr_core.proofs.prepare.prepare.Goals as goal
 

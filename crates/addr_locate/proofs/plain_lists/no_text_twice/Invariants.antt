@@ -1,6 +1,10 @@
-use Rattle.std.proofs.Common.{◌≡◌, drop}
+use Rattle.std.proofs.Common.{◌≡◌, true, take}
+use Rattle.addr_locate.specs.Lookups.{HoldsTexts}
 use Rattle.addr_locate.specs.Rows.{no_text_twice}
 use Rattle.addr_locate.proofs.plain_lists.no_text_twice.Given as goal
 
-abbrev pub invariant-loop-i : goal.invariant-loop-i
-invariant-loop-i l = no_text_twice (drop l.i l.keys) ≡ no_text_twice l.keys
+abbrev pub invariant-loop-key : goal.invariant-loop-key
+invariant-loop-key l = record {
+  holds : HoldsTexts (take l.key-index l.keys) l.seen;
+  once : no_text_twice (take l.key-index l.keys) ≡ true;
+}

@@ -1,16 +1,16 @@
-use Rattle.std.proofs.Common.{◌≡◌, ◌∙◌, ◌++◌, ◌∷◌, [], ap, sym}
-use Rattle.std.specs.List.{list_any}
-use Rattle.std.specs.Str.{bytes_eq}
-use Rattle.std.proofs.lemmas.Result.{IfOk-weaker}
-use Rattle.addr_locate.proofs.NumberLemmas.{text_put, text_pass}
+use Rattle.std.proofs.Common.{◌∙◌, ◌++◌, ◌∷◌, [], ap, sym, is_some}
+use Rattle.addr_locate.proofs.LookupLemmas.{AreListed-put, AreListed-pass}
 use Rattle.addr_locate.proofs.texts.add_text.Goals as goal
 
-pub returns-then-has_text : goal.returns-then-has_text
-returns-then-has_text c = λ seen was.
-    let known : c.has_text.result ≡ list_any (λ t. bytes_eq t c.args.text.now) c.args.texts.now = rw (c.as_slice.ensures, c.as_str.ensures) at c.has_text.ensures in
-    text_pass seen c.args.texts.now c.args.text.now was (sym known ∙ c.if-has_text.true)
+pub returns-then-is_some : goal.returns-then-is_some
+returns-then-is_some c =
+    λ before so_far.
+    let there = ap is_some (sym c.in_ok-insert.ensures.old) ∙ sym c.if-is_some.ensures in
+    AreListed-pass before c.args.once.now c.args.text.now c.args.seen.now c.insert.new.self so_far there c.in_ok-insert.ensures.updates
 
 pub returns : goal.returns
-returns c = λ seen was.
-    let known : c.has_text.result ≡ list_any (λ t. bytes_eq t c.args.text.now) c.args.texts.now = rw (c.as_slice.ensures, c.as_str.ensures) at c.has_text.ensures in
-    IfOk-weaker c.push.result (λ _. c.push.new.self ≡ c.args.texts.now ++ c.in_ok-copy.copy ∷ []) _ (λ _ pushed. pushed ∙ (ap (λ t. c.args.texts.now ++ t ∷ []) (c.in_ok-copy.ensures ∙ c.as_str-2.ensures) ∙ text_put seen c.args.texts.now c.args.text.now was (sym known ∙ c.if-has_text.false))) c.push.ensures.ok
+returns c =
+    λ before so_far.
+    let absent = ap is_some (sym c.in_ok-insert.ensures.old) ∙ sym c.if-is_some.ensures in
+    let put = c.in_ok-push.ensures.ok ∙ ap (λ t. c.args.once.now ++ t ∷ []) c.in_ok-copy.ensures in
+    AreListed-put before c.args.once.now c.push.new.self c.args.text.now c.args.seen.now c.insert.new.self so_far absent c.in_ok-insert.ensures.updates put

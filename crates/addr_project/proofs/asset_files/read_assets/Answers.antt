@@ -1,11 +1,9 @@
-use Rattle.std.proofs.Common.{◌≡◌, ℕ, ◌+◌, ◌<◌, ◌≤◌, [], List, length, get_or, Some, None, inl, inr, refl, sym, ap, ◌∙◌, arith, string_bytes}
+use Rattle.std.proofs.Common.{◌≡◌, get_or, Some, None, inr, refl, sym, ap, ◌∙◌, arith}
 use Rattle.std.specs.Option.{option_map}
 use Rattle.addr_base.specs.Files.{file_at}
-use Rattle.addr_base.specs.declared.files.MemFile.{MemFile}
 use Rattle.addr_project.specs.declared.error.ProjectErr.TheVariants.{MissingFile}
-use Rattle.addr_project.specs.AssetFiles.{ReadsAssets}
 use Rattle.addr_project.specs.Reading.{path, bytes_of}
-use Rattle.addr_project.proofs.LoadLemmas.{Told, Anyhow, told-none, told-missing, told-more, told-all, told-assets, anyhow-none, anyhow-more, anyhow-all, never-more, if-some, if-some-at}
+use Rattle.addr_project.proofs.LoadLemmas.{told-none, told-missing, told-more, told-all, told-assets, anyhow-none, anyhow-more, never-more, if-some, if-some-at}
 use Rattle.addr_project.proofs.asset_files.read_assets.Goals as goal
 
 pub loop-i-init : goal.loop-i-init

@@ -1,6 +1,6 @@
 use Rattle.std.proofs.Common.{map, sym, ◌∙◌}
-use Rattle.addr_project.specs.Extents.{answer_of}
-use Rattle.addr_project.proofs.ReplyLemmas.{are_texts}
+use Rattle.addr_expansion.specs.Extents.{answer_of}
+use Rattle.addr_project.proofs.TextLemmas.{are_texts}
 use Rattle.addr_project.proofs.checking.check_texts.Goals as goal
 
 pub whole-local-requires : goal.whole-local-requires

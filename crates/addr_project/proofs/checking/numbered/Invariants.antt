@@ -1,5 +1,5 @@
 use Rattle.std.proofs.Common.{◌≡◌, map, take}
-use Rattle.addr_project.specs.Lookups.{keys_in}
+use Rattle.addr_project_rows.specs.Lookups.{keys_in}
 use Rattle.addr_project.specs.Reading.{entry_from}
 use Rattle.addr_project.proofs.checking.numbered.Given as goal
 

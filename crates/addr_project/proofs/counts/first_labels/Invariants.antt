@@ -1,6 +1,6 @@
 use Rattle.std.proofs.Common.{◌≡◌, map, drop}
 use Rattle.addr_project.specs.Faults.{over_labels}
-use Rattle.addr_project.specs.Firsts.{first_of}
+use Rattle.addr_project_rows.specs.Firsts.{first_of}
 use Rattle.addr_project.proofs.counts.first_labels.Given as goal
 
 abbrev pub invariant-loop-entry : goal.invariant-loop-entry

@@ -1,4 +1,4 @@
-use Rattle.std.proofs.Common.{◌≡◌, arith}
+use Rattle.std.proofs.Common.{arith}
 use Rattle.addr_script.proofs.KeyLemmas.{same_count}
 use Rattle.addr_script.proofs.keys.key_list.Goals as goal
 

@@ -1,5 +1,5 @@
 use Rattle.std.proofs.Common.{◌∙◌, ap, sym, arith, [], ◌∷◌, ◌++◌}
-use Rattle.addr_core.specs.declared.event.Event.TheVariants.{Load}
+use Rattle.addr_history.specs.declared.event.Event.TheVariants.{Load}
 use Rattle.addr_base.specs.declared.ids.OpId.{OpId}
 use Rattle.addr_core.proofs.Advance.{core_room, core_load, load_answer, load_stays, loads_length, needs_few, room, same_machine, same_images}
 use Rattle.addr_core.proofs.machine.Core.accept.Goals as goal

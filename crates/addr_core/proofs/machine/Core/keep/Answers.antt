@@ -1,7 +1,7 @@
 use Rattle.std.proofs.Common.{◌≡◌, ◌∙◌, ap, sym, subst, refl, List, [], ◌∷◌, ◌++◌, Option, Some, set}
 use Rattle.std.proofs.lemmas.List.{with_items_is}
 use Rattle.std.specs.Vec.{with_items}
-use Rattle.addr_core.specs.declared.event.Event.TheVariants.{Done}
+use Rattle.addr_history.specs.declared.event.Event.TheVariants.{Done}
 use Rattle.addr_core.specs.Machine.{HasImages, ImagesFit}
 use Rattle.addr_core.proofs.Advance.{core_room, core_push, done_answer, kept_held, kept_images, set_fit, same_machine, machine}
 use Rattle.addr_core.proofs.machine.Core.keep.Goals as goal

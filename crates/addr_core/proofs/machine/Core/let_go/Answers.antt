@@ -2,8 +2,8 @@ use Rattle.std.proofs.Common.{◌≡◌, ◌∙◌, ap, sym, subst, arith, refl,
 use Rattle.std.proofs.lemmas.List.{with_items_is}
 use Rattle.std.specs.Vec.{with_items}
 use Rattle.addr_base.specs.declared.ids.BundleNo.{BundleNo}
-use Rattle.addr_core.specs.declared.event.Event.{Event}
-use Rattle.addr_core.specs.declared.event.Event.TheVariants.{Release}
+use Rattle.addr_history.specs.declared.event.Event.{Event}
+use Rattle.addr_history.specs.declared.event.Event.TheVariants.{Release}
 use Rattle.addr_core.specs.Machine.{images_left, HasImages, ImagesFit}
 use Rattle.addr_core.specs.Walk.{Known}
 use Rattle.addr_core.proofs.Keeping.{was_resident}

@@ -1,7 +1,7 @@
 use Rattle.std.proofs.Common.{sym, ap, ◌∙◌, take, arith, true, length-take}
 use Rattle.addr_core.specs.Walk.{counted}
 use Rattle.addr_core.proofs.Queueing.{open_none}
-use Rattle.addr_core.proofs.Owed.{open_le, open_more}
+use Rattle.addr_core.proofs.Walking.{open_le, open_more}
 use Rattle.addr_core.proofs.standing.Past.open_count.Goals as goal
 
 pub loop-e-init : goal.loop-e-init

@@ -1,5 +1,5 @@
 use Rattle.std.proofs.Common.{◌≡◌, take}
-use Rattle.addr_core.specs.Counts.{open_count}
+use Rattle.addr_history.specs.Counts.{open_count}
 use Rattle.addr_core.proofs.standing.Past.open_count.Given as goal
 
 abbrev pub invariant-loop-e : goal.invariant-loop-e

@@ -1,6 +1,6 @@
 use Rattle.std.proofs.Common.{arith}
-use Rattle.addr_core.specs.Answers.{reserved}
-use Rattle.addr_core.proofs.Owed.{within_limit}
+use Rattle.addr_history.specs.Answers.{reserved}
+use Rattle.addr_history.proofs.Owed.{within_limit}
 use Rattle.addr_core.proofs.standing.Past.reserved.Goals as goal
 
 pub returns : goal.returns

@@ -1,5 +1,5 @@
 use Rattle.std.proofs.Common.{ap, ◌∙◌}
-use Rattle.addr_core.specs.Status.{since_load, status_among, status_of}
+use Rattle.addr_history.specs.Status.{since_load, status_among, status_of}
 use Rattle.addr_core.proofs.Walking.{needs_are}
 use Rattle.addr_core.proofs.standing.Past.status.Goals as goal
 

@@ -1,6 +1,6 @@
 use Rattle.std.proofs.Common.{◌∙◌, ap, ◌+◌, arith, length}
-use Rattle.addr_core.specs.Places.{is_queued, is_fetched}
-use Rattle.addr_core.proofs.Counting.{one_if}
+use Rattle.addr_history.specs.Places.{is_queued, is_fetched}
+use Rattle.addr_history.proofs.Counting.{one_if}
 use Rattle.addr_core.proofs.Queueing.{count_more, count_few}
 use Rattle.addr_core.proofs.standing.Past.totals.Goals as goal
 

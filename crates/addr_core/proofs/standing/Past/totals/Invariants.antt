@@ -1,7 +1,7 @@
 use Rattle.std.proofs.Common.{◌≡◌}
 use Rattle.std.specs.List.{count_by}
-use Rattle.addr_core.specs.Places.{is_queued, is_fetched}
-use Rattle.addr_core.proofs.Owed.{numbers}
+use Rattle.addr_history.specs.Places.{is_queued, is_fetched}
+use Rattle.addr_history.proofs.Owed.{numbers}
 use Rattle.addr_core.proofs.standing.Past.totals.Given as goal
 
 abbrev pub invariant-loop-n : goal.invariant-loop-n

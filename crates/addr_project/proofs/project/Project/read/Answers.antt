@@ -1,18 +1,18 @@
-use Rattle.std.proofs.Common.{◌≡◌, ◌≤◌, Ok, Err, Some, None, inl, inr, refl, sym, ap, subst, ◌∙◌, arith}
+use Rattle.std.proofs.Common.{Ok, Err, Some, inl, inr, ap, subst, ◌∙◌}
 use Rattle.toml.specs.View.{table_view}
-use Rattle.addr_project.specs.AssetFiles.{ReadsAssets, KeepsRows, contents, assets_of}
+use Rattle.addr_project.specs.AssetFiles.{ReadsAssets, KeepsRows}
 use Rattle.addr_project.specs.Rows.{file_of}
 use Rattle.addr_project.proofs.LoadLemmas.{if-some, if-some-at}
 use Rattle.addr_project.proofs.NeverLemmas.{tree_never}
-use Rattle.addr_project.specs.Faults.{tree_fault}
 use Rattle.addr_project.proofs.ReadLemmas.{tree-faulty, tree-good, file-faulty, file-good, project-parts, file-tested, kept_parts}
+use Rattle.addr_project.proofs.TreeLemmas.{good_rows}
 use Rattle.addr_project.proofs.project.Project.read.Goals as goal
 
 pub invariant_of-result : goal.invariant_of-result
 invariant_of-result g c =
     let (none, are) = c.in-Ok.ensures.ok in
     let kept : KeepsRows (file_of (table_view c.in_ok-tree.tree)).assets c.in-Ok-read_assets.assets = subst (λ rows. KeepsRows rows c.in-Ok-read_assets.assets) (c.as_slice.ensures ∙ are.assets) c.in-Ok-read_assets.ensures.kept in
-    kept_parts (file_of (table_view c.in_ok-tree.tree)) c.in-Ok.parts c.in-Ok-read_assets.assets (file-tested (table_view c.in_ok-tree.tree) none) are kept
+    kept_parts (file_of (table_view c.in_ok-tree.tree)) c.in-Ok.parts c.in-Ok-read_assets.assets (file-tested (table_view c.in_ok-tree.tree) none) (good_rows (table_view c.in_ok-tree.tree) none) are kept
 
 pub returns-clause-told : goal.returns-clause-told
 returns-clause-told g c =

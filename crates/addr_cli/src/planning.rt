@@ -1,0 +1,73 @@
+// `plan`: the bundles that a project folder is packed into. The limits are tested before anything that they bound is held.
+ghost use Rattle.std.specs.Prelude.{◌≡◌, ◌<◌, ◌^◌, map, length, IfOk};
+ghost use Rattle.addr_layout.specs.Direct.{direct_lists};
+ghost use Rattle.addr_cli.specs.Outcome.{CommandEnds, Planned};
+ghost use Rattle.addr_cli.specs.Planning.{ReadsProject};
+ghost use Rattle.addr_cli.specs.Words.{plan as plan_command};
+
+use crate::refusal::Refusal;
+use addr_base::{Depot, Items, NoMemory, Text};
+use addr_layout::{
+    Layout, closed, closed_size, direct_closes, layout, members_count, placement_is_shared,
+};
+use addr_pack::plan;
+use addr_project::{Limit, Project, ProjectErr};
+use addr_texts::plan_text;
+use std::alloc::Global;
+
+/// The most members, and the most dependencies, of all bundles together.
+const MOST: u64 = 4_000_000;
+
+/// The bundles of the folder's project, as text.
+pub fn plan_folder<D: Depot>(alloc: Global, folder: &Text, depot: &mut D) -> Result<Text, Refusal>
+    ensures ends { CommandEnds (plan_command folder.now) (record { files = D.files depot.old; faults = D.faults depot.old }) (record { files = D.files depot.new; faults = D.faults depot.new }) result }
+    ensures same { D.files depot.new ≡ D.files depot.old }
+{
+    let project = read_project(alloc, folder, depot)?;
+    planned(alloc, &project)
+}
+
+fn read_project<D: Depot>(alloc: Global, folder: &Text, depot: &mut D) -> Result<Project, Refusal>
+    ensures read { ReadsProject folder.now (record { files = D.files depot.old; faults = D.faults depot.old }) (record { files = D.files depot.new; faults = D.faults depot.new }) result }
+    ensures same { D.files depot.new ≡ D.files depot.old }
+{
+    match Project::read(alloc, depot, folder.as_str()) {
+        Ok(project) => Ok(project),
+        Err(ProjectErr::NoMemory) => Err(Refusal::NoMemory),
+        Err(ProjectErr::DepotFault) => Err(Refusal::Depot),
+        Err(fault) => Err(Refusal::BadProject(fault)),
+    }
+}
+
+/// The text of a project's placement, or the first limit that is passed.
+fn planned(alloc: Global, project: &Project) -> Result<Text, Refusal>
+    ensures { Planned project.now result }
+{
+    let placement = plan(alloc, project)?;
+    placement_is_shared(project, &placement);
+    let members = members_count(alloc, project, &placement)?;
+    if members > MOST {
+        return Err(Refusal::TooLarge(Limit::Members, members));
+    }
+    let layout = layout(alloc, project, &placement)?;
+    direct_closes(project, &placement, &layout);
+    let direct = direct_lists(alloc, &layout)?;
+    let deps = closed_size(alloc, direct.as_slice())?;
+    if deps > MOST {
+        return Err(Refusal::TooLarge(Limit::Deps, deps));
+    }
+    let deps = closed(alloc, direct.as_slice())?;
+    let text = plan_text(alloc, project, &placement, &layout, deps.as_slice())?;
+    Ok(text)
+}
+
+/// What each bundle needs, as rows of numbers.
+fn direct_lists(alloc: Global, layout: &Layout) -> Result<Items<Items<u32>>, NoMemory>
+    ensures { IfOk result (λ direct. direct ≡ direct_lists layout.now) }
+{
+    let mut direct = Items::new(alloc);
+    for lay in layout.bundles.as_slice() {
+        direct.push(Items::copy_of(alloc, lay.direct.as_slice())?)?;
+    }
+    Ok(direct)
+}

@@ -1,0 +1,4 @@
+pub mod Expansion
+pub mod Extents
+pub mod Meaning
+pub mod Replies

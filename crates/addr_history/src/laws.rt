@@ -1,0 +1,19 @@
+// Laws about the definitions: each function has an empty body, and its clauses are the laws.
+ghost use Rattle.addr_history.specs.Laws.{LoadsAreNumbered, StaysWithinLimit, PrefixesAreLegal};
+ghost use Rattle.addr_history.specs.Worked.{Located, Shared, Fetched, Retried, Filled};
+
+/// What holds of every legal history.
+pub fn legal_histories()
+    ensures numbered { LoadsAreNumbered }
+    ensures within_limit { StaysWithinLimit }
+    ensures prefixes { PrefixesAreLegal }
+{}
+
+/// The worked examples of `specs/Worked.antt`, computed from the definitions themselves.
+pub fn worked_examples()
+    ensures located { Located }
+    ensures shared { Shared }
+    ensures fetched { Fetched }
+    ensures retried { Retried }
+    ensures filled { Filled }
+{}

@@ -1,0 +1,12 @@
+pub mod GuidLemmas
+pub mod RankLemmas
+pub mod OwnerLemmas
+pub mod GraphLemmas
+pub mod HomeLemmas
+pub mod PlacedLemmas
+pub mod FoundLemmas
+pub mod AgreementLemmas
+pub mod DirectLemmas
+pub mod CountLemmas
+pub mod SharedLemmas
+pub mod LimitLemmas

@@ -1,0 +1,9 @@
+pub mod Members
+pub mod Needs
+pub mod Layout
+pub mod Direct
+pub mod Agreement
+pub mod Counts
+pub mod Graph
+pub mod Owners
+pub mod Homes

@@ -1,0 +1,24 @@
+//! Layouts of placements: what stands in each bundle, where its references lead, and which bundles it needs.
+//!
+//! Promise: `layout` gives exactly the members, the homes and the needs of each bundle (`specs/Members.antt`,
+//! `specs/Needs.antt`, `specs/Layout.antt`); following references through bundles comes to exactly what the project reaches
+//! (`specs/Agreement.antt`). Units: assets and bundles are named by their places in the project's and the placement's lists.
+//! Start: `specs/Members.antt`, then `src/laying.rt`.
+#![tactic(auto)]
+
+mod counting;
+mod graph;
+mod guids;
+mod homes;
+mod laws;
+mod laying;
+mod model;
+mod placing;
+#[cfg(test)]
+mod tests;
+
+pub use addr_walks::{closed, closed_size};
+pub use counting::members_count;
+pub use laws::{dependencies_begin_once, direct_closes, placement_is_shared, walk_agrees};
+pub use laying::layout;
+pub use model::{LayBundle, Layout, RefHome};

@@ -1,0 +1,59 @@
+-- The entries of a project: how many there are, what each is named, and whether its name is too long.
+use Rattle.std.proofs.Common.{◌≡◌, ℕ, ◌+◌, ◌<◌, ◌≤◌, ◌⊎◌, nat_lt, Bool, true, false, List, length, Option, Some, None, refl, sym, ap, subst, ◌∙◌, inl, inr, arith}
+use Rattle.std.proofs.lemmas.Bool.Decides.{nat_tests}
+use Rattle.std.proofs.lemmas.List.{length-map}
+use Rattle.std.proofs.lemmas.Option.{slice_get_within}
+use Rattle.std.specs.List.{slice_get}
+use Rattle.std.specs.Option.{option_or}
+use Rattle.addr_base.specs.declared.ids.Guid.{Guid}
+use Rattle.addr_base.specs.declared.var.Var.{Var}
+use Rattle.addr_project.specs.declared.error.ProjectErr.TheVariants.{OverLimit}
+use Rattle.addr_project.specs.declared.limit.Limit.TheVariants as limit
+use Rattle.addr_project.specs.declared.model.Entry.{Entry}
+use Rattle.addr_project.specs.declared.model.Group.{Group}
+use Rattle.addr_project.specs.Faults.{count_fault, over}
+use Rattle.addr_project.specs.Kept.{IsKept}
+use Rattle.addr_project.specs.Model.{Project}
+use Rattle.addr_pack.specs.LongNames.{HasLongName}
+use Rattle.addr_pack.specs.Naming.{IsNamed, IsNameOf}
+use Rattle.addr_pack.proofs.ClassLemmas.{below_or_at}
+use Rattle.addr_pack.proofs.SameLemmas.{one_name}
+
+never_none : {A : Type 0} (a b c : Option A) (x : A) → option_or a (option_or b (option_or c (Some x))) ≡ None → ⊥
+never_none None None None x is = absurd (cc)
+never_none None None (Some y) x is = absurd (cc)
+never_none None (Some y) c x is = absurd (cc)
+never_none (Some y) b c x is = absurd (cc)
+
+too_many : (variables : List Var) (groups : List Group) (refs : List (List Guid)) (labels : List (List (List ℕ))) → nat_lt 65536 (length labels) ≡ true → count_fault variables groups refs labels ≡ None → ⊥
+unfolding count_fault
+too_many variables groups refs labels above is =
+    never_none (over limit.Variables 64 (length variables)) (over limit.Groups 1024 (length groups)) (over limit.Assets 65536 (length refs)) (OverLimit limit.Entries (length labels)) (rw above at is)
+
+few_counted : (variables : List Var) (groups : List Group) (refs : List (List Guid)) (labels : List (List (List ℕ))) → count_fault variables groups refs labels ≡ None → length labels ≤ 65536
+few_counted variables groups refs labels is = by_test (nat_lt 65536 (length labels)) refl
+  where
+    by_test : (t : Bool) → nat_lt 65536 (length labels) ≡ t → length labels ≤ 65536
+    by_test true above = absurd (too_many variables groups refs labels above is)
+    by_test false below = grind (arith, nat_tests)
+
+pub few_entries : (p : Project) → IsKept p → length p.entries ≤ 65536
+few_entries p kept = rw (length-map p.entries (λ (e : Entry). e.labels)) at (few_counted p.variables p.groups _ _ kept.counts)
+
+pub named_from : (p : Project) (x : ℕ) (e : Entry) (name : List ℕ) → slice_get p.entries x ≡ Some e → IsNameOf p e name → IsNamed p x e.group name
+named_from p x e name is named = (e, is, refl, named)
+
+-- what has a name is an entry
+pub within : (p : Project) (x g : ℕ) (name : List ℕ) → IsNamed p x g name → x < length p.entries
+within p x g name (e, is, number, named) = slice_get_within p.entries x e is
+
+pub none_long : (p : Project) (n g : ℕ) (name : List ℕ) → ((x size : ℕ) → x < n → HasLongName p x size → ⊥) → IsNamed p n g name → length name ≤ 200 → (x size : ℕ) → x < n + 1 → HasLongName p x size → ⊥
+none_long p n g name none named short x size small long = by_place (below_or_at x n small)
+  where
+    by_place : (x < n) ⊎ (x ≡ n) → ⊥
+    by_place (inl less) = none x size less long
+    by_place (inr at) =
+        let same = (one_name p n g long.0 name long.1 named (subst (λ (y : ℕ). IsNamed p y long.0 long.1) at long.2)).1 in
+        let above : 200 < size = long.4 in
+        let is : size ≡ length name = long.3 ∙ ap length (sym same) in
+        omega arith

@@ -1,0 +1,7 @@
+pub mod ClassLemmas
+pub mod EntryLemmas
+pub mod ListLemmas
+pub mod NameLemmas
+pub mod PlacedLemmas
+pub mod SameLemmas
+pub mod UniqueLemmas

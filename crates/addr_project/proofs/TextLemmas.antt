@@ -1,0 +1,35 @@
+-- Texts without a fault are texts.
+use Rattle.std.proofs.Common.{◌≡◌, ℕ, Bool, true, false, ◌||◌, cond, List, Some, None, Result, refl, sym}
+use Rattle.addr_expansion.specs.declared.error.ExpandErr.{ExpandErr}
+use Rattle.addr_expansion.specs.declared.extent.Extent.{Extent}
+use Rattle.addr_expansion.specs.declared.extent.Extent.TheVariants.{Bad, Circular, Whole, Long}
+use Rattle.std.proofs.lemmas.Bool.{false≢true}
+use Rattle.std.specs.Prelude.{IsOk}
+use Rattle.addr_expansion.specs.Extents.{answer_of}
+use Rattle.addr_expansion.specs.Replies.{is_unknown, is_circular}
+use Rattle.addr_project.specs.Faults.{too_long, text_fault}
+use Rattle.addr_project.proofs.OnceLemmas.{none-parts}
+
+neither : {A : Type 0} (a b : Bool) (x : A) → cond (a || b) (Some x) None ≡ None → (a ≡ false) × (b ≡ false)
+neither true b x is = absurd (cc)
+neither false true x is = absurd (cc)
+neither false false x is = (refl, refl)
+
+is_text : (e : Extent) → is_unknown (answer_of e) ≡ false → is_circular (answer_of e) ≡ false → too_long (answer_of e) ≡ None → IsOk (answer_of e)
+is_text Bad known ends short = absurd (false≢true (sym known))
+is_text Circular known ends short = absurd (false≢true (sym ends))
+is_text (Whole t) known ends short = refl
+is_text (Long n) known ends short = absurd (cc)
+
+pub are_texts : (l r : Extent) (values : List (Result (List ℕ) ExpandErr)) → text_fault (answer_of l) (answer_of r) values ≡ None → IsOk (answer_of l) × IsOk (answer_of r)
+unfolding text_fault
+are_texts l r values none =
+    let unknown = none-parts _ _ none in
+    let values_known = none-parts _ _ unknown.1 in
+    let values_end = none-parts _ _ values_known.1 in
+    let circular_ones = none-parts _ _ values_end.1 in
+    let long_local = none-parts _ _ circular_ones.1 in
+    let long_remote = none-parts _ _ long_local.1 in
+    let known = neither (is_unknown (answer_of l)) (is_unknown (answer_of r)) _ unknown.0 in
+    let ends = neither (is_circular (answer_of l)) (is_circular (answer_of r)) _ circular_ones.0 in
+    (is_text l known.0 ends.0 long_local.0, is_text r known.1 ends.1 long_remote.0)

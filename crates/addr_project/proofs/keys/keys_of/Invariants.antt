@@ -1,6 +1,0 @@
-use Rattle.std.proofs.Common.{◌≡◌, map, take}
-use Rattle.addr_project.specs.Lookups.{keys_in}
-use Rattle.addr_project.proofs.keys.keys_of.Given as goal
-
-abbrev pub invariant-loop-row : goal.invariant-loop-row
-invariant-loop-row g l = keys_in l.keys.items ≡ map g.T.Keyed.key_of (take l.row-index l.rows)

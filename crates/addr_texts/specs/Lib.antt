@@ -1,0 +1,3 @@
+pub mod InspectText
+pub mod Marks
+pub mod PlanText

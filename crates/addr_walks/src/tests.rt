@@ -1,0 +1,48 @@
+// What no clause says: that each call can succeed, on rows whose walks can be followed by hand.
+use crate::{Search, are_below, closed, closed_size};
+use addr_base::{Items, NoMemory};
+use std::alloc::Global;
+use std::test::Fail;
+
+/// Row 1 leads to 0, row 2 to 4, rows 3 and 5 to each other, row 3 also to 1, and row 5 to itself.
+fn rows(alloc: Global) -> Result<Vec<Items<u32>>, NoMemory> {
+    let mut rows = Vec::new(alloc);
+    for row in [[].as_slice(), &[0], &[4], &[5, 1], &[], &[3, 5]] {
+        rows.push(Items::copy_of(alloc, row)?)?;
+    }
+    Ok(rows)
+}
+
+#[test]
+fn follows_every_walk(rt: HostRuntime) -> Result<(), Fail> {
+    let made = rows(rt.alloc())?;
+    let rows = made.as_slice();
+    assert_eq!(rt; rows.len(), 6);
+    assert!(rt; are_below(rows));
+    let all = closed(rt.alloc(), rows)?;
+    for (deps, want) in all.as_slice().iter().zip([
+        [0].as_slice(),
+        &[1, 0],
+        &[2, 4],
+        &[3, 0, 1, 5],
+        &[4],
+        &[5, 0, 1, 3],
+    ]) {
+        assert!(rt; deps.as_slice() == want);
+    }
+    assert_eq!(rt; closed_size(rt.alloc(), rows)?, 14);
+    Ok(())
+}
+
+#[test]
+fn searches_one_after_another(rt: HostRuntime) -> Result<(), Fail> {
+    let made = rows(rt.alloc())?;
+    let rows = made.as_slice();
+    assert_eq!(rt; rows.len(), 6);
+    assert!(rt; are_below(rows));
+    let mut search = Search::new(rt.alloc(), rows.len())?;
+    assert_eq!(rt; search.count(rows, &[5, 2])?, 6);
+    let found = search.reached(rt.alloc(), rows, &[2])?;
+    assert!(rt; found.as_slice() == [2, 4].as_slice());
+    Ok(())
+}
