@@ -1,5 +1,5 @@
 -- What a run ends with, from what its command ends with; and that sound files leave it only its text or want of memory.
-use Rattle.std.proofs.Common.{◌≡◌, ◌∙◌, sym, subst, refl, ℕ, List, Option, Some, None, IfSome, Result, Ok, Err, ◌⊎◌, inl, inr, arith}
+use Rattle.std.proofs.Common.{◌≡◌, ◌∙◌, sym, ap, subst, refl, codes, if◌then◌else◌, ℕ, List, [], ◌∷◌, Option, Some, None, IfSome, Result, Ok, Err, ◌⊎◌, inl, inr, arith}
 use Rattle.addr_base.specs.Faults.{Rose}
 use Rattle.addr_base.specs.Files.{file_at}
 use Rattle.addr_base.specs.declared.files.MemFile.{MemFile}
@@ -8,36 +8,64 @@ use Rattle.addr_project.specs.Model.{Project}
 use Rattle.addr_project.specs.Reading.{ProjectOf}
 use Rattle.addr_project.specs.declared.limit.Limit.{Limit}
 use Rattle.addr_project.specs.declared.limit.Limit.TheVariants as limit
+use Rattle.std.specs.Str.{bytes_eq}
+use Rattle.addr_catalog.specs.Catalogue.{catalogue_read}
+use Rattle.addr_catalog.specs.declared.catalogue.Catalogue.{Catalogue}
 use Rattle.addr_locate.specs.PlainRows.{ReadsRows}
 use Rattle.addr_locate.specs.Rows.{Rows}
 use Rattle.addr_locate.specs.declared.error.RowsErr.TheVariants.{Line as RowsLine}
 use Rattle.addr_script.specs.Scripts.{ReadsScript}
 use Rattle.addr_script.specs.declared.script.Script.{Script}
 use Rattle.addr_script.specs.declared.error.ScriptErr.TheVariants.{Line as ScriptLine}
-use Rattle.addr_cli.specs.Outcome.{Store, Stream, EndsWith, Ends, Simulates, Inspects, Plans, Planned, IsPlannable, RunsTo, IsReady, IsSound, IsComplete, HasRows, HasScript}
+use Rattle.addr_cli.specs.Outcome.{Store, Stream, EndsWith, Ends, Simulates, ShowsRows, Inspects, Plans, Planned, IsPlannable, RunsTo, IsReady, IsSound, IsComplete, HasCatalogue, HasPlainRows, HasRows, HasScript, IsBadCatalogue, IsBadPlain}
 use Rattle.addr_cli.specs.Refusals.{ended_status}
-use Rattle.addr_cli.specs.Words.{Command, simulate, inspect, plan, AsksFor}
+use Rattle.addr_cli.specs.Words.{Command, simulate, list_rows, inspect, plan, AsksFor, words_of}
 use Rattle.addr_cli.specs.declared.refusal.Refusal.{Refusal}
-use Rattle.addr_cli.specs.declared.refusal.Refusal.TheVariants.{NoMemory, Usage, Depot, BadProject, NoFile, BadRows, BadBundle, BadScript, TooLarge}
+use Rattle.addr_cli.specs.declared.refusal.Refusal.TheVariants.{NoMemory, Usage, Depot, BadProject, NoFile, BadCatalogue, BadRows, BadBundle, BadScript, TooLarge}
 use Rattle.addr_cli.proofs.OnceLemmas.{rows_read_once, script_read_once}
 
 no_file : (name : List ℕ) (files : List MemFile) (bytes : List ℕ) → file_at name files ≡ Some bytes → file_at name files ≡ None → ⊥
 no_file name files bytes there none = let same : Some bytes ≡ None = sym there ∙ none in absurd (cc same)
 
+-- the bytes of a file are one text
+one_text : (name : List ℕ) (files : List MemFile) (bytes other : List ℕ) → file_at name files ≡ Some bytes → file_at name files ≡ Some other → other ≡ bytes
+one_text name files bytes other here there = let same : Some bytes ≡ Some other = sym here ∙ there in cc same
+
+-- a file that is a catalogue is no bad one
+no_fault : (files : List MemFile) (name : List ℕ) (c : Catalogue) (n : ℕ) → HasCatalogue files name c → IsBadCatalogue files name n → ⊥
+no_fault files name c n has bad =
+    let R : List ℕ → Type 0 = λ b. catalogue_read b ≡ Err bad.2 in
+    let read = sym has.read ∙ subst R (one_text name files has.bytes bad.0 has.file bad.1) bad.3 in
+    absurd (cc read)
+
+-- a file in the plain form has no bad line
+no_bad_line : (files : List MemFile) (name : List ℕ) (r : Rows) (n : ℕ) → HasPlainRows files name r → IsBadPlain files name n → ⊥
+no_bad_line files name r n has bad =
+    let P : List ℕ → Type 0 = λ b. ReadsRows b (Err (RowsLine n)) in
+    rows_read_once has.bytes r n has.read (subst P (one_text name files has.bytes bad.0 has.file bad.1) bad.2)
+
+-- a file of rows is there
+there : (files : List MemFile) (name : List ℕ) (r : Rows) → HasRows files name r → file_at name files ≡ None → ⊥
+there files name r has none = elim has [
+  | inl catalogue ↦ no_file name files catalogue.2.bytes catalogue.2.file none
+  | inr plain ↦ no_file name files plain.1.bytes plain.1.file none
+]
+
 -- sound files leave `simulate` only its text
 sound_text : (files : List MemFile) (rows script : List ℕ) (ended : Result (List ℕ) Refusal) → (r : Rows) → HasRows files rows r → (s : Script) → HasScript files script s → Simulates files rows script ended → ended_status ended ≡ 0
 sound_text files rows script (Ok text) r has_rows s has_script simulates = refl
-sound_text files rows script (Err (NoFile token)) r has_rows s has_script simulates = elim simulates [ inl none ↦ absurd (no_file rows files has_rows.bytes has_rows.file none.0) | inr none ↦ absurd (no_file script files has_script.bytes has_script.file none.2) ]
-sound_text files rows script (Err (BadRows n)) r has_rows s has_script simulates =
-    let same : Some has_rows.bytes ≡ Some simulates.0 = sym has_rows.file ∙ simulates.1 in
-    let bytes : simulates.0 ≡ has_rows.bytes = cc in
-    let P : List ℕ → Type 0 = λ b. ReadsRows b (Err (RowsLine n)) in
-    absurd (rows_read_once has_rows.bytes r n has_rows.read (subst P bytes simulates.2))
+sound_text files rows script (Err (NoFile token)) r has_rows s has_script simulates = elim simulates [ inl none ↦ absurd (there files rows r has_rows none.0) | inr none ↦ absurd (no_file script files has_script.bytes has_script.file none.2) ]
+sound_text files rows script (Err (BadCatalogue n)) r has_rows s has_script simulates = elim has_rows [
+  | inl catalogue ↦ absurd (no_fault files rows catalogue.1 n catalogue.2 simulates.1)
+  | inr plain ↦ absurd (plain.0 simulates.0)
+]
+sound_text files rows script (Err (BadRows n)) r has_rows s has_script simulates = elim has_rows [
+  | inl catalogue ↦ absurd (simulates.0 catalogue.0)
+  | inr plain ↦ absurd (no_bad_line files rows r n plain.1 simulates.1)
+]
 sound_text files rows script (Err (BadScript n)) r has_rows s has_script simulates =
-    let same : Some has_script.bytes ≡ Some simulates.2 = sym has_script.file ∙ simulates.3 in
-    let bytes : simulates.2 ≡ has_script.bytes = cc in
     let P : List ℕ → Type 0 = λ b. ReadsScript b (Err (ScriptLine n)) in
-    absurd (script_read_once has_script.bytes s n has_script.read (subst P bytes simulates.4))
+    absurd (script_read_once has_script.bytes s n has_script.read (subst P (one_text script files has_script.bytes simulates.2 has_script.file simulates.3) simulates.4))
 sound_text files rows script (Err (BadBundle token n)) r has_rows s has_script simulates = absurd simulates
 sound_text files rows script (Err (BadProject fault)) r has_rows s has_script simulates = absurd simulates
 sound_text files rows script (Err (TooLarge which n)) r has_rows s has_script simulates = absurd simulates
@@ -48,19 +76,32 @@ sound_text files rows script (Err Depot) r has_rows s has_script simulates = abs
 sound_rows : (files : List MemFile) (rows script : List ℕ) (ended : Result (List ℕ) Refusal) → IsReady (simulate rows script) files → Simulates files rows script ended → ended_status ended ≡ 0
 sound_rows files rows script ended ready ends = sound_text files rows script ended ready.0 ready.1 ready.2 ready.3 ends
 
+-- a catalogue leaves `rows` only its text
+sound_catalogue : (files : List MemFile) (file : List ℕ) (ended : Result (List ℕ) Refusal) → IsReady (list_rows file) files → ShowsRows files file ended → ended_status ended ≡ 0
+sound_catalogue files file (Ok text) sound ends = refl
+sound_catalogue files file (Err (NoFile token)) sound ends = absurd (no_file file files sound.1.bytes sound.1.file ends.0)
+sound_catalogue files file (Err (BadCatalogue n)) sound ends = absurd (no_fault files file sound.0 n sound.1 ends)
+sound_catalogue files file (Err NoMemory) sound ends = absurd ends
+sound_catalogue files file (Err Usage) sound ends = absurd ends
+sound_catalogue files file (Err Depot) sound ends = absurd ends
+sound_catalogue files file (Err (BadRows n)) sound ends = absurd ends
+sound_catalogue files file (Err (BadScript n)) sound ends = absurd ends
+sound_catalogue files file (Err (BadBundle token n)) sound ends = absurd ends
+sound_catalogue files file (Err (BadProject fault)) sound ends = absurd ends
+sound_catalogue files file (Err (TooLarge which n)) sound ends = absurd ends
+
 -- a bundle file leaves `inspect` only its text
 sound_bundle : (files : List MemFile) (file : List ℕ) (ended : Result (List ℕ) Refusal) → IsReady (inspect file) files → Inspects files file ended → ended_status ended ≡ 0
 sound_bundle files file (Ok other) sound ends = refl
 sound_bundle files file (Err (NoFile token)) sound ends = absurd (no_file file files sound.0 sound.1 ends.0)
 sound_bundle files file (Err (BadBundle token number)) sound ends =
-    let same : Some sound.0 ≡ Some ends.0 = sym sound.1 ∙ ends.1 in
-    let bytes : ends.0 ≡ sound.0 = cc in
     let R : List ℕ → Type 0 = λ b. bundle_read b ≡ Err ends.2 in
-    let read = sym sound.3.read ∙ subst R bytes ends.3 in
+    let read = sym sound.3.read ∙ subst R (one_text file files sound.0 ends.0 sound.1 ends.1) ends.3 in
     absurd (cc read)
 sound_bundle files file (Err NoMemory) sound ends = absurd ends
 sound_bundle files file (Err Usage) sound ends = absurd ends
 sound_bundle files file (Err Depot) sound ends = absurd ends
+sound_bundle files file (Err (BadCatalogue n)) sound ends = absurd ends
 sound_bundle files file (Err (BadRows n)) sound ends = absurd ends
 sound_bundle files file (Err (BadScript n)) sound ends = absurd ends
 sound_bundle files file (Err (BadProject fault)) sound ends = absurd ends
@@ -97,6 +138,7 @@ sound_project files folder (Err NoMemory) sound ends = absurd ends
 sound_project files folder (Err Usage) sound ends = absurd ends
 sound_project files folder (Err Depot) sound ends = absurd ends
 sound_project files folder (Err (NoFile token)) sound ends = absurd ends
+sound_project files folder (Err (BadCatalogue n)) sound ends = absurd ends
 sound_project files folder (Err (BadRows n)) sound ends = absurd ends
 sound_project files folder (Err (BadBundle token n)) sound ends = absurd ends
 sound_project files folder (Err (BadScript n)) sound ends = absurd ends
@@ -104,20 +146,26 @@ sound_project files folder (Err (BadScript n)) sound ends = absurd ends
 -- a command that has all that it needs ends with a text
 one_end : (c : Command) (files : List MemFile) (ended : Result (List ℕ) Refusal) → IsReady c files → Ends c files ended → ended_status ended ≡ 0
 one_end (simulate rows script) files ended ready ends = sound_rows files rows script ended ready ends
+one_end (list_rows file) files ended ready ends = sound_catalogue files file ended ready ends
 one_end (inspect file) files ended ready ends = sound_bundle files file ended ready ends
 one_end (plan folder) files ended ready ends = sound_project files folder ended ready ends
 
+-- the command that words ask for
+asked : List (List ℕ) → Option Command
+asked (word ∷ rows ∷ script ∷ []) = Some (simulate rows script)
+asked (word ∷ file ∷ []) = if bytes_eq word (codes "rows") then Some (list_rows file) else if bytes_eq word (codes "inspect") then Some (inspect file) else Some (plan file)
+asked _ = None
+
+asked_one : (c : Command) → asked (words_of c) ≡ Some c
+unfolding asked
+asked_one (simulate rows script) = refl
+asked_one (list_rows file) = refl
+asked_one (inspect file) = refl
+asked_one (plan folder) = refl
+
 -- words ask for one command
 same_command : (words : List (List ℕ)) (c d : Command) → AsksFor words c → AsksFor words d → c ≡ d
-same_command words (simulate rows script) (simulate rows' script') asks asks' = let same = sym asks.0 ∙ asks'.0 in cc same
-same_command words (simulate rows script) (inspect file) asks asks' = let same = sym asks.0 ∙ asks'.0 in absurd (cc same)
-same_command words (inspect file) (simulate rows script) asks asks' = let same = sym asks.0 ∙ asks'.0 in absurd (cc same)
-same_command words (inspect file) (inspect file') asks asks' = let same = sym asks.0 ∙ asks'.0 in cc same
-same_command words (simulate rows script) (plan folder) asks asks' = let same = sym asks.0 ∙ asks'.0 in absurd (cc same)
-same_command words (plan folder) (simulate rows script) asks asks' = let same = sym asks.0 ∙ asks'.0 in absurd (cc same)
-same_command words (inspect file) (plan folder) asks asks' = let same = sym asks.0 ∙ asks'.0 in absurd (cc same)
-same_command words (plan folder) (inspect file) asks asks' = let same = sym asks.0 ∙ asks'.0 in absurd (cc same)
-same_command words (plan folder) (plan folder') asks asks' = let same = sym asks.0 ∙ asks'.0 in cc same
+same_command words c d asks asks' = let same : Some c ≡ Some d = sym (asked_one c) ∙ ap asked (sym asks ∙ asks') ∙ asked_one d in cc same
 
 through : (words : List (List ℕ)) (files : List MemFile) (depot : Store) (ended : Result (List ℕ) Refusal) → depot.files ≡ Some files → IsSound words files → (c : Command) → AsksFor words c → IfSome depot.files (λ known. Ends c known ended) → ended_status ended ≡ 0
 through words files depot ended told sound c asks ends =
@@ -131,6 +179,7 @@ sound_end words files depot depot' (Err Usage) told sound steady ends = absurd (
 sound_end words files depot depot' (Err Depot) told sound steady ends = absurd (steady ends.2)
 sound_end words files depot depot' (Ok text) told sound steady ends = inl refl
 sound_end words files depot depot' (Err (NoFile token)) told sound steady ends = inl (through words files depot (Err (NoFile token)) told sound ends.0 ends.1 ends.2)
+sound_end words files depot depot' (Err (BadCatalogue n)) told sound steady ends = inl (through words files depot (Err (BadCatalogue n)) told sound ends.0 ends.1 ends.2)
 sound_end words files depot depot' (Err (BadRows n)) told sound steady ends = inl (through words files depot (Err (BadRows n)) told sound ends.0 ends.1 ends.2)
 sound_end words files depot depot' (Err (BadBundle token n)) told sound steady ends = inl (through words files depot (Err (BadBundle token n)) told sound ends.0 ends.1 ends.2)
 sound_end words files depot depot' (Err (BadProject fault)) told sound steady ends = inl (through words files depot (Err (BadProject fault)) told sound ends.0 ends.1 ends.2)

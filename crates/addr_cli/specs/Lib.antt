@@ -1,4 +1,5 @@
 pub mod Inspecting
+pub mod Listing
 pub mod Outcome
 pub mod Planning
 pub mod Refusals

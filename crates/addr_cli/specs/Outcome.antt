@@ -20,7 +20,12 @@ use Rattle.addr_pack.specs.LongNames.{NamesFit, IsFirstLong}
 use Rattle.addr_pack.specs.Placement.{IsPlaced}
 use Rattle.addr_pack.specs.declared.bundles.Plan.{Plan}
 use Rattle.addr_layout.specs.Counts.{IsMembersCount, IsDepsCount}
+use Rattle.addr_catalog.specs.Catalogue.{catalogue_read}
+use Rattle.addr_catalog.specs.Numbers.{error_number}
+use Rattle.addr_catalog.specs.declared.catalogue.Catalogue.{Catalogue}
+use Rattle.addr_catalog.specs.declared.error.CatErr.{CatErr}
 use Rattle.addr_locate.specs.PlainRows.{ReadsRows}
+use Rattle.addr_locate.specs.PlainText.{plain_text}
 use Rattle.addr_locate.specs.Rows.{Rows}
 use Rattle.addr_locate.specs.declared.error.RowsErr.TheVariants.{Line as RowsLine}
 use Rattle.addr_script.specs.Scripts.{ReadsScript}
@@ -28,12 +33,17 @@ use Rattle.addr_script.specs.declared.script.Script.{Script}
 use Rattle.addr_script.specs.declared.error.ScriptErr.TheVariants.{Line as ScriptLine}
 use Rattle.addr_cli.specs.SimText.{sim_text}
 use Rattle.addr_cli.specs.Refusals.{ended_status, ended_text}
-use Rattle.addr_cli.specs.Words.{Command, simulate, inspect, plan, AsksFor, IsCommandLine}
+use Rattle.addr_cli.specs.Words.{Command, simulate, list_rows, inspect, plan, AsksFor, IsCommandLine, IsJsonName}
 use Rattle.addr_cli.specs.declared.refusal.Refusal.{Refusal}
-use Rattle.addr_cli.specs.declared.refusal.Refusal.TheVariants.{NoMemory, Usage, Depot, BadProject, NoFile, BadRows, BadBundle, BadScript, TooLarge}
+use Rattle.addr_cli.specs.declared.refusal.Refusal.TheVariants.{NoMemory, Usage, Depot, BadProject, NoFile, BadCatalogue, BadRows, BadBundle, BadScript, TooLarge}
 
--- the file with that name is there and is read as these rows; as this script
-pub record HasRows (files : List MemFile) (name : List ℕ) (rows : Rows) : Type 0 where
+-- the file with that name is there and is read as this catalogue; as these rows in the plain form; as this script
+pub record HasCatalogue (files : List MemFile) (name : List ℕ) (catalogue : Catalogue) : Type 0 where
+  pub bytes : List ℕ
+  pub file : file_at name files ≡ Some bytes
+  pub read : catalogue_read bytes ≡ Ok catalogue
+
+pub record HasPlainRows (files : List MemFile) (name : List ℕ) (rows : Rows) : Type 0 where
   pub bytes : List ℕ
   pub file : file_at name files ≡ Some bytes
   pub read : ReadsRows bytes (Ok rows)
@@ -43,6 +53,17 @@ pub record HasScript (files : List MemFile) (name : List ℕ) (script : Script) 
   pub file : file_at name files ≡ Some bytes
   pub read : ReadsScript bytes (Ok script)
 
+-- a file of rows is a catalogue where its name ends so, and in the plain form otherwise
+abbrev pub HasRows : List MemFile → List ℕ → Rows → Type 0
+HasRows files name rows = (IsJsonName name × (c : Catalogue) × HasCatalogue files name c × (c.locator ≡ rows)) ⊎ ((¬ IsJsonName name) × HasPlainRows files name rows)
+
+-- the file is there and is no catalogue, by a first fault with that number; isn't in the plain form, the first bad line being n
+abbrev pub IsBadCatalogue : List MemFile → List ℕ → ℕ → Type 0
+IsBadCatalogue files name n = (bytes : List ℕ) × (file_at name files ≡ Some bytes) × (fault : CatErr) × (catalogue_read bytes ≡ Err fault) × (n ≡ error_number fault)
+
+abbrev pub IsBadPlain : List MemFile → List ℕ → ℕ → Type 0
+IsBadPlain files name n = (bytes : List ℕ) × (file_at name files ≡ Some bytes) × ReadsRows bytes (Err (RowsLine n))
+
 -- the most events of a script without a limit
 abbrev pub limit_of : Script → ℕ
 limit_of script = unwrap_or script.limit 100000
@@ -51,9 +72,17 @@ limit_of script = unwrap_or script.limit 100000
 abbrev pub Simulates : List MemFile → List ℕ → List ℕ → Result (List ℕ) Refusal → Type 0
 Simulates files rows script (Ok text) = (r : Rows) × (s : Script) × HasRows files rows r × HasScript files script s × (text ≡ sim_text r (limit_of s) [] s.commands)
 Simulates files rows script (Err (NoFile token)) = ((file_at rows files ≡ None) × (token ≡ token_of rows)) ⊎ ((r : Rows) × HasRows files rows r × (file_at script files ≡ None) × (token ≡ token_of script))
-Simulates files rows script (Err (BadRows n)) = (bytes : List ℕ) × (file_at rows files ≡ Some bytes) × ReadsRows bytes (Err (RowsLine n))
+Simulates files rows script (Err (BadCatalogue n)) = IsJsonName rows × IsBadCatalogue files rows n
+Simulates files rows script (Err (BadRows n)) = (¬ IsJsonName rows) × IsBadPlain files rows n
 Simulates files rows script (Err (BadScript n)) = (r : Rows) × HasRows files rows r × (bytes : List ℕ) × (file_at script files ≡ Some bytes) × ReadsScript bytes (Err (ScriptLine n))
 Simulates files rows script (Err _) = ⊥
+
+-- what `rows` ends with over these files: the rows of the catalogue that the file is in the plain form, else its first fault
+abbrev pub ShowsRows : List MemFile → List ℕ → Result (List ℕ) Refusal → Type 0
+ShowsRows files file (Ok text) = (c : Catalogue) × HasCatalogue files file c × (text ≡ plain_text c.locator)
+ShowsRows files file (Err (NoFile token)) = (file_at file files ≡ None) × (token ≡ token_of file)
+ShowsRows files file (Err (BadCatalogue n)) = IsBadCatalogue files file n
+ShowsRows files file (Err _) = ⊥
 
 -- the bytes are the bundle, and so are read without a fault
 pub record HoldsBundle (bytes : List ℕ) (bundle : Bundle) : Type 0 where
@@ -119,6 +148,7 @@ IsRead old new name (Err _) = ⊥
 -- what a command ends with over files that are told: its text, or why it is refused
 abbrev pub Ends : Command → List MemFile → Result (List ℕ) Refusal → Type 0
 Ends (simulate rows script) files ended = Simulates files rows script ended
+Ends (list_rows file) files ended = ShowsRows files file ended
 Ends (inspect file) files ended = Inspects files file ended
 Ends (plan folder) files ended = Plans files folder ended
 
@@ -153,6 +183,7 @@ RunsTo words depot depot_after out out_after status = (ended : Result (List ℕ)
 -- the files that a command needs are there, and are taken by their readers
 abbrev pub IsReady : Command → List MemFile → Type 0
 IsReady (simulate rows script) files = (r : Rows) × HasRows files rows r × (s : Script) × HasScript files script s
+IsReady (list_rows file) files = (c : Catalogue) × HasCatalogue files file c
 IsReady (plan folder) files = IsPlannable files folder
 IsReady (inspect file) files = (bytes : List ℕ) × (file_at file files ≡ Some bytes) × (bundle : Bundle) × HoldsBundle bytes bundle
 

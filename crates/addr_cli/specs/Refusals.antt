@@ -11,7 +11,7 @@ use Rattle.addr_locate.specs.declared.error.RowsErr.TheVariants.{Line as RowsLin
 use Rattle.addr_script.specs.declared.error.ScriptErr.{ScriptErr}
 use Rattle.addr_script.specs.declared.error.ScriptErr.TheVariants.{Line as ScriptLine, NoMemory as ScriptNoMemory}
 use Rattle.addr_cli.specs.declared.refusal.Refusal.{Refusal}
-use Rattle.addr_cli.specs.declared.refusal.Refusal.TheVariants.{NoMemory, Usage, Depot, BadProject, NoFile, BadRows, BadBundle, BadScript, TooLarge}
+use Rattle.addr_cli.specs.declared.refusal.Refusal.TheVariants.{NoMemory, Usage, Depot, BadProject, NoFile, BadCatalogue, BadRows, BadBundle, BadScript, TooLarge}
 
 abbrev pub refusal_status : Refusal → ℕ
 refusal_status NoMemory = 1
@@ -19,6 +19,7 @@ refusal_status Usage = 2
 refusal_status Depot = 3
 refusal_status (BadProject fault) = 4
 refusal_status (NoFile token) = 5
+refusal_status (BadCatalogue number) = 7
 refusal_status (BadRows line) = 7
 refusal_status (BadBundle token number) = 8
 refusal_status (BadScript line) = 9
@@ -31,6 +32,7 @@ refusal_text Usage = codes "error 2 usage"
 refusal_text Depot = codes "error 3 depot"
 refusal_text (BadProject fault) = codes "error 4 " ++ fault_text fault
 refusal_text (NoFile token) = codes "error 5 " ++ token
+refusal_text (BadCatalogue number) = codes "error 7 " ++ decimal number
 refusal_text (BadRows line) = codes "error 7 line " ++ decimal line
 refusal_text (BadBundle token number) = codes "error 8 " ++ (token ++ (codes " unityfs " ++ decimal number))
 refusal_text (BadScript line) = codes "error 9 " ++ decimal line

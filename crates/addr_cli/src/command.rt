@@ -1,7 +1,7 @@
 // What the words of a command line ask for.
-ghost use Rattle.std.specs.Prelude.{◌↔◌, IsTrue, MatchOption};
+ghost use Rattle.std.specs.Prelude.{MatchOption};
 ghost use Rattle.addr_cli.specs.Requests.{command_of};
-ghost use Rattle.addr_cli.specs.Words.{AsksFor, IsCommandLine, IsJsonName};
+ghost use Rattle.addr_cli.specs.Words.{AsksFor, IsCommandLine};
 
 use addr_base::Text;
 use addr_fields::is_same;
@@ -10,6 +10,7 @@ use addr_fields::is_same;
 #[derive(Clone, Copy)]
 pub enum Request<'a> {
     Simulate { rows: &'a Text, script: &'a Text },
+    ListRows { file: &'a Text },
     Inspect { file: &'a Text },
     Plan { folder: &'a Text },
 }
@@ -20,14 +21,16 @@ pub fn request_of(words: &[Text]) -> Option<Request<'_>>
 {
     match words {
         [command, rows, script] => {
-            if is_same(command.as_bytes(), b"simulate") && !is_json_name(rows.as_bytes()) {
+            if is_same(command.as_bytes(), b"simulate") {
                 Some(Request::Simulate { rows, script })
             } else {
                 None
             }
         }
         [command, file] => {
-            if is_same(command.as_bytes(), b"inspect") {
+            if is_same(command.as_bytes(), b"rows") {
+                Some(Request::ListRows { file })
+            } else if is_same(command.as_bytes(), b"inspect") {
                 Some(Request::Inspect { file })
             } else if is_same(command.as_bytes(), b"plan") {
                 Some(Request::Plan { folder: file })
@@ -37,10 +40,4 @@ pub fn request_of(words: &[Text]) -> Option<Request<'_>>
         }
         _ => None,
     }
-}
-
-fn is_json_name(name: &[u8]) -> bool
-    ensures { IsTrue result ↔ IsJsonName name.now }
-{
-    name.len() >= 5 && is_same(&name[name.len() - 5..], b".json")
 }

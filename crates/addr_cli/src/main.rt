@@ -1,13 +1,14 @@
 //! The program: words, statuses, and the commands over the crates below.
 //!
 //! Promise: `run` ends as `specs/Outcome.antt` says of its words, the depot's files and the counts of faults; with status 0
-//! it prints exactly the text of `specs/SimText.antt`. `main` calls `run` over the working folder and standard output.
-//! Left out: catalogues, and every command but `simulate`, `inspect` and `plan`. Start: `specs/Words.antt`, `specs/Outcome.antt`, `src/runner.rt`.
+//! it prints exactly the text of its command. `main` calls `run` over the working folder and standard output.
+//! Left out: every command but `simulate`, `rows`, `inspect` and `plan`. Start: `specs/Words.antt`, `specs/Outcome.antt`, `src/runner.rt`.
 #![tactic(auto)]
 
 mod command;
 mod files;
 mod inspecting;
+mod listing;
 mod planning;
 mod refusal;
 mod report;

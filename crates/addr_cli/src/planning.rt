@@ -1,15 +1,12 @@
 // `plan`: the bundles that a project folder is packed into. The limits are tested before anything that they bound is held.
-ghost use Rattle.std.specs.Prelude.{◌≡◌, ◌<◌, ◌^◌, map, length, IfOk};
-ghost use Rattle.addr_layout.specs.Direct.{direct_lists};
+ghost use Rattle.std.specs.Prelude.{◌≡◌};
 ghost use Rattle.addr_cli.specs.Outcome.{CommandEnds, Planned};
 ghost use Rattle.addr_cli.specs.Planning.{ReadsProject};
 ghost use Rattle.addr_cli.specs.Words.{plan as plan_command};
 
 use crate::refusal::Refusal;
-use addr_base::{Depot, Items, NoMemory, Text};
-use addr_layout::{
-    Layout, closed, closed_size, direct_closes, layout, members_count, placement_is_shared,
-};
+use addr_base::{Depot, Text};
+use addr_layout::{closed, deps_count, direct_closes, layout, members_count, placement_is_shared};
 use addr_pack::plan;
 use addr_project::{Limit, Project, ProjectErr};
 use addr_texts::plan_text;
@@ -49,25 +46,14 @@ fn planned(alloc: Global, project: &Project) -> Result<Text, Refusal>
     if members > MOST {
         return Err(Refusal::TooLarge(Limit::Members, members));
     }
-    let layout = layout(alloc, project, &placement)?;
-    direct_closes(project, &placement, &layout);
-    let direct = direct_lists(alloc, &layout)?;
-    let deps = closed_size(alloc, direct.as_slice())?;
+    let deps = deps_count(alloc, project, &placement)?;
     if deps > MOST {
         return Err(Refusal::TooLarge(Limit::Deps, deps));
     }
+    let layout = layout(alloc, project, &placement)?;
+    direct_closes(project, &placement, &layout);
+    let direct = layout.direct(alloc)?;
     let deps = closed(alloc, direct.as_slice())?;
     let text = plan_text(alloc, project, &placement, &layout, deps.as_slice())?;
     Ok(text)
-}
-
-/// What each bundle needs, as rows of numbers.
-fn direct_lists(alloc: Global, layout: &Layout) -> Result<Items<Items<u32>>, NoMemory>
-    ensures { IfOk result (λ direct. direct ≡ direct_lists layout.now) }
-{
-    let mut direct = Items::new(alloc);
-    for lay in layout.bundles.as_slice() {
-        direct.push(Items::copy_of(alloc, lay.direct.as_slice())?)?;
-    }
-    Ok(direct)
 }

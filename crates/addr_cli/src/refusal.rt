@@ -23,6 +23,8 @@ pub enum Refusal {
     BadProject(ProjectErr),
     /// No file has the name with this token.
     NoFile(Text),
+    /// The number of the first fault of a catalogue.
+    BadCatalogue(u8),
     /// The first bad line of the rows.
     BadRows(u32),
     /// The token of the name of a file that is no bundle, and the number of its first fault.
@@ -43,6 +45,7 @@ impl Refusal {
             Refusal::Depot => Status(3),
             Refusal::BadProject(_) => Status(4),
             Refusal::NoFile(_) => Status(5),
+            Refusal::BadCatalogue(_) => Status(7),
             Refusal::BadRows(_) => Status(7),
             Refusal::BadBundle(_, _) => Status(8),
             Refusal::BadScript(_) => Status(9),
@@ -67,6 +70,7 @@ impl fmt::Display for Refusal {
                 let name = token.as_str();
                 write!(f, "error 5 {name}")
             }
+            Refusal::BadCatalogue(number) => write!(f, "error 7 {number}"),
             Refusal::BadRows(line) => write!(f, "error 7 line {line}"),
             Refusal::BadBundle(token, number) => {
                 let name = token.as_str();

@@ -7,13 +7,13 @@ ghost use Rattle.addr_cli.specs.Words.{IsCommandLine, simulate};
 use crate::command::{Request, request_of};
 use crate::files::read_file;
 use crate::inspecting::inspect_file;
+use crate::listing::{list_file, read_rows_file};
 use crate::planning::plan_folder;
 use crate::refusal::Refusal;
 use crate::report::report;
 use crate::simulator::simulate;
 use crate::status::Status;
 use addr_base::{Depot, Sink, Text};
-use addr_locate::read_rows;
 use addr_script::read_script;
 use std::alloc::Global;
 
@@ -36,6 +36,7 @@ fn command_text<D: Depot>(alloc: Global, words: &[Text], depot: &mut D) -> Resul
 {
     match request_of(words) {
         Some(Request::Simulate { rows, script }) => simulate_files(alloc, rows, script, depot),
+        Some(Request::ListRows { file }) => list_file(alloc, file, depot),
         Some(Request::Inspect { file }) => inspect_file(alloc, file, depot),
         Some(Request::Plan { folder }) => plan_folder(alloc, folder, depot),
         None => Err(Refusal::Usage),
@@ -51,8 +52,7 @@ fn simulate_files<D: Depot>(
     ensures ends { CommandEnds (simulate rows.now script.now) (record { files = D.files depot.old; faults = D.faults depot.old }) (record { files = D.files depot.new; faults = D.faults depot.new }) result }
     ensures same { D.files depot.new ≡ D.files depot.old }
 {
-    let bytes = read_file(alloc, depot, rows)?;
-    let locator = read_rows(alloc, bytes.as_slice())?;
+    let locator = read_rows_file(alloc, rows, depot)?;
     let bytes = read_file(alloc, depot, script)?;
     let script = read_script(alloc, bytes.as_slice())?;
     let text = simulate(alloc, locator, &script)?;

@@ -8,6 +8,7 @@ use std::alloc::Global;
 use std::fmt::Write;
 use std::test::Fail;
 
+mod catalogued;
 mod faulty;
 mod inspected;
 mod interleavings;
@@ -316,5 +317,44 @@ fn plans_projects(rt: HostRuntime) -> Result<(), Fail> {
     }
     let none = Vec::new(rt.alloc());
     assert!(rt; ends(rt.alloc(), "plan F", none, NO_FAULT, 4, "error 4 1 - 0\n")?);
+    Ok(())
+}
+
+#[test]
+fn prints_the_rows_of_catalogues(rt: HostRuntime) -> Result<(), Fail> {
+    for (text, status, printed) in catalogued::CASES {
+        let files = one_file(rt.alloc(), "c", text.as_bytes())?;
+        assert!(rt;
+            ends(rt.alloc(), "rows c", files, NO_FAULT, status, printed)?,
+            "{printed}"
+        );
+    }
+    let none = Vec::new(rt.alloc());
+    assert!(rt; ends(rt.alloc(), "rows c", none, NO_FAULT, 5, "error 5 c\n")?);
+    Ok(())
+}
+
+/// The name of the rows says how they are read.
+#[test]
+fn plays_over_a_catalogue(rt: HostRuntime) -> Result<(), Fail> {
+    for (name, rows, status, printed) in [
+        ("c.json", catalogued::WRITTEN, 0, "op 0\nbundle 1\n"),
+        (".json", catalogued::WRITTEN, 0, "op 0\nbundle 1\n"),
+        ("c.json", worked::ROWS, 7, "error 7 1\n"),
+        ("c", catalogued::WRITTEN, 7, "error 7 line 1\n"),
+    ] {
+        let mut files = one_file(rt.alloc(), name, rows.as_bytes())?;
+        add_file(
+            rt.alloc(),
+            &mut files,
+            "s",
+            b"load 0 one first %* bush\ntake 1\n",
+        )?;
+        let line = format!(in rt.alloc(); "simulate {name} s")?;
+        assert!(rt;
+            ends(rt.alloc(), line.as_str(), files, NO_FAULT, status, printed)?,
+            "{name} {printed}"
+        );
+    }
     Ok(())
 }

@@ -10,3 +10,4 @@ pub mod DirectLemmas
 pub mod CountLemmas
 pub mod SharedLemmas
 pub mod LimitLemmas
+pub mod LinkLemmas

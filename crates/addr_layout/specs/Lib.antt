@@ -7,3 +7,4 @@ pub mod Counts
 pub mod Graph
 pub mod Owners
 pub mod Homes
+pub mod Links

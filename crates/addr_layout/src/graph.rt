@@ -1,7 +1,7 @@
 // A project as rows of numbers, made once, over which every bundle's search goes.
 ghost use Rattle.std.specs.Prelude.{◌≡◌, ◌<◌, ◌^◌, length, map, IfOk};
 ghost use Rattle.std.specs.List.{All, filter};
-ghost use Rattle.addr_layout.specs.Graph.{IsGraph, IsSized, is_free, seeds_at};
+ghost use Rattle.addr_layout.specs.Graph.{IsGraph, IsSized, is_free, refs_at, seeds_at};
 ghost use Rattle.addr_layout.specs.Members.{IsShared};
 
 use crate::guids::{guids_in_order, numbers_of, refs_of};
@@ -37,6 +37,16 @@ impl Graph {
         ensures below { All (λ s. s < length self.now.within) result.now }
     {
         self.seeds.as_slice()[b].as_slice()
+    }
+
+    /// The ranks of the references at a rank.
+    pub fn refs_at(&self, rank: u32) -> &[u32]
+        requires within { rank < length self.now.guids }
+        requires sized { IsSized self.now }
+        ensures value { result.now ≡ refs_at self.now rank }
+        ensures below { All (λ r. r < length self.now.guids) result.now }
+    {
+        self.refs.as_slice()[rank as usize].as_slice()
     }
 }
 

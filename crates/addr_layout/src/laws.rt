@@ -16,7 +16,7 @@ use addr_project::Project;
 /// A project's own placement may be laid out: its bundles are few, each entry stands in exactly one, and none is kept.
 pub fn placement_is_shared(project: &Project, plan: &Plan)
     requires { IsPlaced project.now plan.now }
-    ensures few { length plan.now.bundles < 2 ^ 32 }
+    ensures few { length plan.now.bundles < 2 ^ 31 }
     ensures shared { IsShared project.now plan.now }
     ensures new { IsAllNew plan.now }
 {

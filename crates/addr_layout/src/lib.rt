@@ -12,13 +12,14 @@ mod guids;
 mod homes;
 mod laws;
 mod laying;
+mod links;
 mod model;
 mod placing;
 #[cfg(test)]
 mod tests;
 
 pub use addr_walks::{closed, closed_size};
-pub use counting::members_count;
+pub use counting::{deps_count, members_count};
 pub use laws::{dependencies_begin_once, direct_closes, placement_is_shared, walk_agrees};
 pub use laying::layout;
 pub use model::{LayBundle, Layout, RefHome};

@@ -1,5 +1,7 @@
 // Worked examples from outside: the layouts of two projects, and their counts.
-use crate::{Layout, RefHome, closed, direct_closes, layout, members_count, placement_is_shared};
+use crate::{
+    Layout, RefHome, closed, deps_count, direct_closes, layout, members_count, placement_is_shared,
+};
 use addr_base::{Depot, Items, MemDepot, NoMemory};
 use addr_pack::plan;
 use addr_project::Project;
@@ -48,6 +50,7 @@ struct Made {
     layout: Layout,
     deps: Items<Items<u32>>,
     members: u64,
+    deps_total: u64,
 }
 
 /// Lays a project out; a refusal of an earlier call ends as want of memory.
@@ -66,6 +69,7 @@ fn lay_out(alloc: Global, text: &str) -> Result<Made, NoMemory> {
     };
     placement_is_shared(&project, &plan);
     let members = members_count(alloc, &project, &plan)?;
+    let deps_total = deps_count(alloc, &project, &plan)?;
     let layout = layout(alloc, &project, &plan)?;
     direct_closes(&project, &plan, &layout);
     let direct = layout.direct(alloc)?;
@@ -74,6 +78,7 @@ fn lay_out(alloc: Global, text: &str) -> Result<Made, NoMemory> {
         layout,
         deps,
         members,
+        deps_total,
     })
 }
 
@@ -85,8 +90,8 @@ struct Wanted<'a> {
     deps: &'a [u32],
 }
 
-/// Compares each bundle's members, homes and dependencies, and the count of all members.
-fn lays(rt: &(impl AllocGlobal + Abort), text: &str, want: &[Wanted], members: u64) {
+/// Compares each bundle's members, homes and dependencies, and the counts of all members and all dependencies.
+fn lays(rt: &(impl AllocGlobal + Abort), text: &str, want: &[Wanted], members: u64, deps: u64) {
     match lay_out(rt.alloc(), text) {
         Ok(made) => {
             assert!(rt;
@@ -95,6 +100,7 @@ fn lays(rt: &(impl AllocGlobal + Abort), text: &str, want: &[Wanted], members: u
                 made.layout
             );
             assert_eq!(rt; made.members, members);
+            assert_eq!(rt; made.deps_total, deps);
             for ((lay, deps), wanted) in made
                 .layout
                 .bundles
@@ -147,6 +153,7 @@ fn copies_into_every_bundle_that_needs_it(rt: HostRuntime) {
             },
         ],
         16,
+        7,
     );
 }
 
@@ -168,5 +175,6 @@ fn bundles_may_need_each_other(rt: HostRuntime) {
             },
         ],
         2,
+        4,
     );
 }

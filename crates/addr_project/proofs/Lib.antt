@@ -1,3 +1,5 @@
+pub mod AnswerLemmas
+pub mod CircleLemmas
 pub mod DocumentLemmas
 pub mod KeptLemmas
 pub mod LoadLemmas

@@ -119,8 +119,8 @@ text_never : (local remote : Result (List ℕ) ExpandErr) (values : List (Result
 unfolding text_fault
 text_never local remote values =
     either _ _ (tested _ _ (variable_bad part.Profile 0)) (either _ _ (mapped (BadVariable part.Variable) (variable_bad part.Variable) _)
-    (either _ _ (mapped VariableCycle variable_cycle _) (either _ _ (tested _ _ (variable_cycle 0))
-    (either _ _ (long local) (either _ _ (long remote) (either _ _ (firsts too_long long values) none))))))
+    (either _ _ (mapped VariableCycle variable_cycle _)
+    (either _ _ (long local) (either _ _ (long remote) (either _ _ (firsts too_long long values) none)))))
 
 file_never : (f : ProjectFile) → Never (file_fault f)
 unfolding file_fault

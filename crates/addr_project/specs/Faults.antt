@@ -148,13 +148,12 @@ too_long (Err (expanding.TooLong n)) = Some (OverLimit limit.Expanded n)
 too_long _ = None
 
 -- the first text, of the profile's two and the variables' values, that leads to a bad name, to itself, or to too much;
--- a text of the profile leads to itself only by way of a variable, whose row then comes first
+-- a text of the profile that leads to itself names a variable whose value does, so the values' test is enough
 unfoldable pub text_fault : Result (List ℕ) ExpandErr → Result (List ℕ) ExpandErr → List (Result (List ℕ) ExpandErr) → Option ProjectErr
 text_fault local remote values = first_some (
     (if is_unknown local || is_unknown remote then Some (BadVariable part.Profile 0) else None)
     ∷ option_map (BadVariable part.Variable) (position is_unknown values)
     ∷ option_map VariableCycle (position is_circular values)
-    ∷ (if is_circular local || is_circular remote then Some (VariableCycle 0) else None)
     ∷ too_long local
     ∷ too_long remote
     ∷ first_of too_long values

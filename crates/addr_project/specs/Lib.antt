@@ -4,6 +4,7 @@ pub mod Checked
 pub mod DepotCauses
 pub mod Faults
 pub mod Kept
+pub mod Laws
 pub mod Loading
 pub mod Model
 pub mod Modes

@@ -3,7 +3,7 @@
 //! Promise: `Project::read` answers exactly the project or exactly the first broken test (`specs/Reading.antt`); what each
 //! `Project` keeps is an invariant of its type (`specs/Kept.antt`). Beside it stands what a project shows under a key
 //! (`specs/Reach.antt`), for the crates that build and update.
-//! Units: lengths and counts of bytes; rows and numbers count from 0. Start: `specs/Reading.antt`, then `src/reading.rt`.
+//! Units: lengths and counts of bytes; rows and numbers count from 0. Start: `specs/Reading.antt`, then `src/project.rt`.
 #![tactic(auto)]
 
 mod asset_files;
@@ -12,6 +12,7 @@ mod counts;
 mod document;
 mod error;
 mod groups;
+mod laws;
 mod limit;
 mod loaded;
 mod model;
@@ -26,6 +27,7 @@ mod text_faults;
 
 pub use addr_expansion::{ExpandErr, expand};
 pub use error::ProjectErr;
+pub use laws::folder_has_one_answer;
 pub use limit::{Limit, Part};
 pub use model::{Asset, Entry, Group, Mode};
 pub use project::Project;

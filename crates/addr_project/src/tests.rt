@@ -14,6 +14,12 @@ const LOST: &str =
 const DANGLING: &str =
     "[[asset]]\nguid = '00000000000000000000000000000003'\ntype = 'T'\nfile = 'b'\nrefs = ['00000000000000000000000000000009']\n";
 
+const FIVE: &str = "[[asset]]\nguid = '00000000000000000000000000000001'\ntype = 'T'\nfile = 'a'\n\
+    [[asset]]\nguid = '00000000000000000000000000000002'\ntype = 'T'\nfile = 'a'\n\
+    [[asset]]\nguid = '00000000000000000000000000000003'\ntype = 'T'\nfile = 'a'\n\
+    [[asset]]\nguid = '00000000000000000000000000000004'\ntype = 'T'\nfile = 'a'\n\
+    [[asset]]\nguid = '00000000000000000000000000000005'\ntype = 'T'\nfile = 'a'\n";
+
 const GROUP: &str = "[[group]]\nname = 'Core'\n";
 
 const RESERVED: &str = "[[group]]\nname = 'Content Update'\n";
@@ -59,6 +65,14 @@ fn depot_of(
         bytes: Items::from_vec(asset),
     })?;
     Ok(MemDepot::new(files, Vec::from_slice(alloc, &[fail])?))
+}
+
+// The fault of a folder as it is printed, or nothing where the folder is read.
+fn line_of(alloc: Global, depot: &mut MemDepot, folder: &str) -> Result<String, Fail> {
+    match Project::read(alloc, depot, folder) {
+        Ok(_) => Ok(String::new(alloc)),
+        Err(fault) => Ok(format!(in alloc; "{fault}")?),
+    }
 }
 
 #[test]
@@ -114,10 +128,25 @@ fn first_broken_test_is_answered(rt: HostRuntime) -> Result<(), Fail> {
     for (folder, parts, fail, want) in cases {
         let asset = Vec::from_slice(rt.alloc(), b"A")?;
         let mut depot = depot_of(rt.alloc(), parts, asset, fail)?;
-        let line = match Project::read(rt.alloc(), &mut depot, folder) {
-            Ok(_) => String::new(rt.alloc()),
-            Err(fault) => format!(in rt.alloc(); "{fault}")?,
-        };
+        let line = line_of(rt.alloc(), &mut depot, folder)?;
+        assert_eq!(rt; line.as_str(), want);
+    }
+    Ok(())
+}
+
+// Each asset has the same file, so that the sum of sizes is reached with little memory.
+#[test]
+fn sizes_of_files_are_limited(rt: HostRuntime) -> Result<(), Fail> {
+    let cases: [(&[&str], usize, &str); 4] = [
+        (&[ASSET, LOST], 67_108_865, "8 asset 1"),
+        (&[FIVE], 67_108_865, "11 asset-bytes 67108865"),
+        (&[FIVE], 53_687_092, "11 all-bytes 268435460"),
+        (&[FIVE], 53_687_091, ""),
+    ];
+    for (parts, length, want) in cases {
+        let asset = vec![in rt.alloc(); 0; length]?;
+        let mut depot = depot_of(rt.alloc(), parts, asset, 0)?;
+        let line = line_of(rt.alloc(), &mut depot, "F")?;
         assert_eq!(rt; line.as_str(), want);
     }
     Ok(())

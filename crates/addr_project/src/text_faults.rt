@@ -7,7 +7,7 @@ ghost use Rattle.addr_project_rows.specs.Firsts.{first_of};
 use crate::error::ProjectErr;
 use crate::limit::{Limit, Part};
 use addr_base::NoMemory;
-use addr_expansion::{Extent, Replies, first_bad, first_circular, is_bad, is_circular};
+use addr_expansion::{Extent, Replies, first_bad, first_circular, is_bad};
 use addr_project_rows::row_number;
 
 /// The first text that can't be expanded.
@@ -31,9 +31,6 @@ pub fn text_fault(replies: &Replies) -> Result<Option<ProjectErr>, NoMemory>
         return Ok(Some(ProjectErr::VariableCycle {
             row: row_number(place)?,
         }));
-    }
-    if is_circular(&replies.local) || is_circular(&replies.remote) {
-        return Ok(Some(ProjectErr::VariableCycle { row: 0 }));
     }
     Ok(
         too_long(&replies.local)

@@ -1,7 +1,7 @@
 // Command lines, rows and scripts that are refused; beside rows and scripts stands their first bad line.
 
 /// Words that are no command's.
-pub const WORDS: [&str; 10] = [
+pub const WORDS: [&str; 11] = [
     "",
     "fly",
     "plan",
@@ -9,8 +9,9 @@ pub const WORDS: [&str; 10] = [
     "simulate r",
     "simulate r s s",
     "Simulate r s",
-    "simulate r.json s",
-    "simulate .json s",
+    "rows",
+    "rows r s",
+    "Rows r",
     "--help",
 ];
 

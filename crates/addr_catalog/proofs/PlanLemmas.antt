@@ -1,0 +1,87 @@
+-- The texts of keys, listed one after the other up to the last, and how many keys there are: for `Plan::of`.
+use Rattle.std.proofs.Common.{ℕ, ◌≡◌, ◌+◌, ◌≤◌, ◌<◌, ◌⊎◌, List, [], ◌∷◌, ◌++◌, length, map, take, get_or, Some, None, Bor, refl, sym, ap, ◌∙◌, inl, inr, append_assoc, filter, ◌^◌, arith, length-append, ℤ, pos, to_z}
+use Rattle.std.specs.List.{slice_get, range_with_len, flat_map}
+use Rattle.std.proofs.lemmas.List.{map-append, length-map, take_more, take_all}
+use Rattle.std.proofs.lemmas.List.FromFn.{length-map-range_with_len, map-range_with_len_more}
+use Rattle.std.proofs.lemmas.Simd.{map-map}
+use Rattle.std.proofs.lemmas.Int.{to_z_pos}
+use mir.Syntax.{w32}
+use Rattle.std.proofs.lemmas.Option.{slice_get_within, get_or_from_slice_get, slice_get_cases}
+use Rattle.addr_catalog.specs.Inverted.{lists_with}
+use Rattle.addr_keys.specs.declared.key.Key.{Key}
+use Rattle.addr_keys.specs.declared.key.Key.TheVariants.{Text, I32}
+use Rattle.addr_catalog.specs.Written.{table_texts, dep_lists, dep_numbers, is_several, row_numbers, table_keys, table_buckets, CanWrite}
+use Rattle.addr_locate.specs.Rows.{Rows, texts_once}
+use Rattle.addr_tables.specs.Format.{bucket_numbers, bucket_table}
+use Rattle.addr_tables.specs.Written.{buckets_from}
+use Rattle.addr_tables.proofs.WrittenLemmas.{length-table, two_each, length-buckets}
+
+-- what stands behind so many of a list
+pub at_place : {X : Type 0} (xs : List X) (n : ℕ) (x : X) → slice_get xs n ≡ Some x → take (n + 1) xs ≡ take n xs ++ x ∷ []
+at_place xs n x is = take_more xs n x (slice_get_within xs n x is) ∙ ap (λ y. take n xs ++ y ∷ []) (get_or_from_slice_get xs n x x is)
+
+pub past_end : {X : Type 0} (xs : List X) (n : ℕ) → slice_get xs n ≡ None → take n xs ≡ xs
+past_end {X = X} xs n none = by_case (slice_get_cases xs n).1
+  where
+    by_case : ((x : X) × (n < length xs) × (slice_get xs n ≡ Some x) × (get_or xs n x ≡ x)) ⊎ ((length xs ≤ n) × (slice_get xs n ≡ None)) → take n xs ≡ xs
+    by_case (inl found) = cc
+    by_case (inr past) = take_all n xs past.0
+
+-- one more text, and the end
+pub text_put : (front keys : List (List ℕ)) (made new : List (Bor (List ℕ))) (n : ℕ) (text : Bor (List ℕ)) → map (λ t. t.now) made ≡ front ++ take n keys → slice_get keys n ≡ Some text.now → new ≡ made ++ text ∷ [] → map (λ t. t.now) new ≡ front ++ take (n + 1) keys
+text_put front keys made new n text so_far is put =
+    ap (map (λ t. t.now)) put ∙ (map-append (λ (t : Bor (List ℕ)). t.now) made (text ∷ []) ∙ (ap (λ ts. ts ++ text.now ∷ []) so_far ∙ (append_assoc front (take n keys) (text.now ∷ []) ∙ ap (λ ts. front ++ ts) (sym (at_place keys n text.now is)))))
+
+pub texts_all : (front keys : List (List ℕ)) (made : List (Bor (List ℕ))) (n : ℕ) → map (λ t. t.now) made ≡ front ++ take n keys → slice_get keys n ≡ None → map (λ t. t.now) made ≡ front ++ keys
+texts_all front keys made n so_far none = so_far ∙ ap (λ ts. front ++ ts) (past_end keys n none)
+
+-- a bucket stands beside each key, and there are few
+pub count_keys : (r : Rows) → length (table_keys r) ≡ length (table_texts r) + length (dep_lists r)
+unfolding table_keys
+count_keys r =
+    let lists = length (dep_lists r) in
+    let texts = length-map (table_texts r) Text in
+    let numbers = length-map-range_with_len (λ n. I32 (pos (n + 1))) 0 lists in
+    length-append (map Text (table_texts r)) (map (λ n. I32 (pos (n + 1))) (range_with_len 0 lists)) ∙ rw (texts, numbers) refl
+
+pub paired : (r : Rows) → length (table_buckets r) ≡ length (table_keys r)
+unfolding table_buckets table_keys
+paired r =
+    let texts = length (table_texts r) in
+    let lists = length (dep_lists r) in
+    let buckets = length-append (map (lists_with (row_numbers r)) (range_with_len 0 texts)) (dep_lists r) ∙ ap (λ n. n + lists) (length-map-range_with_len (lists_with (row_numbers r)) 0 texts) in
+    buckets ∙ sym (count_keys r)
+
+few_buckets : (keys : List Key) (nss : List (List ℕ)) → length nss ≡ length keys → length (bucket_table (buckets_from 4 keys nss)) < 2 ^ 31 → length keys < 2 ^ 30
+unfolding bucket_table
+few_buckets keys nss same small =
+    let bs = buckets_from 4 keys nss in
+    omega (arith, length-table (length bs ∷ flat_map bucket_numbers bs), two_each bs, length-buckets 4 keys nss same)
+
+pub few_keys : (r : Rows) → CanWrite r → length (table_texts r) + length (dep_lists r) < 2 ^ 30
+few_keys r can = let few = few_buckets (table_keys r) (table_buckets r) (paired r) can.bucket_small in omega (arith, few, count_keys r)
+
+pub few_texts : (r : Rows) (texts : List (Bor (List ℕ))) → CanWrite r → map (λ t. t.now) texts ≡ map (λ b. b.key) r.bundles ++ r.keys → length (texts_once (map (λ t. t.now) texts)) < 2 ^ 32
+unfolding table_texts
+few_texts r texts can are = let few = few_keys r can in let same = ap (λ ts. length (texts_once ts)) are in omega (arith, few, same)
+
+pub few_lists : (r : Rows) (lists : List (Bor (List ℕ))) (deps : List (List ℕ)) → CanWrite r → deps ≡ map dep_numbers r.assets → map (λ l. l.now) lists ≡ filter is_several deps → length (texts_once (map (λ l. l.now) lists)) < 2 ^ 32
+unfolding dep_lists
+few_lists r lists deps can listed are =
+    let few = few_keys r can in
+    let same = ap (λ ts. length (texts_once ts)) (are ∙ ap (filter is_several) listed) in
+    omega (arith, few, same)
+
+-- one more number for a list, and then all keys
+pub number_put : (front keys new : List Key) (n : ℕ) (z : ℤ) → n + 1 < 2 ^ 31 → keys ≡ front ++ map (λ n. I32 (pos (n + 1))) (range_with_len 0 n) → z ≡ to_z w32 (n + 1) → new ≡ keys ++ I32 z ∷ [] → new ≡ front ++ map (λ n. I32 (pos (n + 1))) (range_with_len 0 (n + 1))
+number_put front keys new n z small so_far is put =
+    let last : z ≡ pos (n + 1) = is ∙ to_z_pos w32 (n + 1) small in
+    let more = map-range_with_len_more (λ n. I32 (pos (n + 1))) 0 n n (omega arith) in
+    put ∙ (rw (so_far, last) refl ∙ (append_assoc front (map (λ n. I32 (pos (n + 1))) (range_with_len 0 n)) (I32 (pos (n + 1)) ∷ []) ∙ ap (λ ks. front ++ ks) (sym more)))
+
+pub all_keys : (r : Rows) (texts : List (Bor (List ℕ))) (keys : List Key) (count n : ℕ) → map (λ t. t.now) texts ≡ table_texts r → count ≡ length (dep_lists r) → n ≤ count → count ≤ n → keys ≡ map (λ t. Text t.now) texts ++ map (λ n. I32 (pos (n + 1))) (range_with_len 0 n) → keys ≡ table_keys r
+unfolding table_keys
+all_keys r texts keys count n are lists low high so_far =
+    let same : n ≡ length (dep_lists r) = omega (arith, lists) in
+    let front : map (λ (t : Bor (List ℕ)). Text t.now) texts ≡ map Text (table_texts r) = sym (map-map Text (λ (t : Bor (List ℕ)). t.now) texts) ∙ ap (map Text) are in
+    so_far ∙ rw (same, front) refl

@@ -1,0 +1,13 @@
+pub mod Steps
+pub mod Numbers
+pub mod FaultsBelow
+pub mod InternalIds
+pub mod Tables
+pub mod Inverted
+pub mod Entries
+pub mod TableRows
+pub mod Catalogue
+pub mod Listed
+pub mod Written
+pub mod ReadBack
+pub mod ReadsAlike

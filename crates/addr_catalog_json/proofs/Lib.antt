@@ -1,0 +1,4 @@
+pub mod TreeLemmas
+pub mod MemberLemmas
+pub mod WrittenLemmas
+pub mod BackLemmas

@@ -1,0 +1,18 @@
+//! The document of a catalogue in JSON, both ways (docs/formats/catalogue.md): its members, and the options of its bundles.
+//!
+//! Promise: `read_document` answers the document that bytes are, else exactly the first fault (`specs/Document.antt`), and
+//! `read_options` the options that a text is (`specs/Options.antt`).
+//! Units: sizes in bytes. Left out: what the tables in the document stand for.
+//! Start: `specs/Document.antt`, then `src/document.rt`.
+#![tactic(auto)]
+
+mod document;
+mod error;
+mod members;
+mod options;
+mod writer;
+
+pub use document::{Document, Lists, Strings, read_document};
+pub use error::DocErr;
+pub use options::{BundleOptions, read_options};
+pub use writer::{write_document, write_options};
