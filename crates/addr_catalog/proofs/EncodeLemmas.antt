@@ -28,6 +28,7 @@ use Rattle.addr_catalog.specs.Inverted.{is_among, list_at, first_with, lists_wit
 use Rattle.addr_catalog.specs.Written.{table_texts, bundle_numbers, asset_numbers, row_numbers, dep_numbers, is_several, dep_lists, table_keys, table_buckets, primary_of, dep_key, options_assembly, options_class, bundle_options, options_key, bundle_entry, asset_entry, each_numbered, table_entries, table_rows, row_ids, row_kinds, CanWrite}
 use Rattle.addr_catalog.proofs.GoodLemmas.{all-append, all-filter}
 use Rattle.addr_catalog.proofs.PlanLemmas.{count_keys, paired, few_keys}
+use Rattle.addr_catalog.proofs.FewLemmas.{twice-texts_once, few_from}
 use Rattle.addr_catalog.proofs.RowLemmas.{place_within, rows_within, count_rows, count_entries, few_rows, sound_rows, IsNumbered}
 
 -- ---- keys
@@ -73,45 +74,6 @@ keys_distinct (t ∷ ts) count once =
     not_there : (b : Bool) → not b ≡ true → b ≡ false
     not_there true e = absurd (false≢true e)
     not_there false e = refl
-
--- texts that are kept once stand once
-none-filter : (p : List ℕ → Bool) (t : List ℕ) (ts : List (List ℕ)) → list_any (λ u. bytes_eq u t) ts ≡ false → list_any (λ u. bytes_eq u t) (filter p ts) ≡ false
-none-filter p t [] out = refl
-none-filter p t (u ∷ us) out = by_test (p u) (bytes_eq u t) refl refl (none-filter p t us)
-  where
-    by_test : (kept same : Bool) → p u ≡ kept → bytes_eq u t ≡ same → (list_any (λ w. bytes_eq w t) us ≡ false → list_any (λ w. bytes_eq w t) (filter p us) ≡ false) → list_any (λ w. bytes_eq w t) (filter p (u ∷ us)) ≡ false
-    by_test kept true k e rest = let clash : true ≡ false = rw e at out in absurd (cc)
-    by_test true false k e rest = rw (k, e) (rest (rw e at out))
-    by_test false false k e rest = rw k (rest (rw e at out))
-
-twice-filter : (p : List ℕ → Bool) (ts : List (List ℕ)) → no_text_twice ts ≡ true → no_text_twice (filter p ts) ≡ true
-twice-filter p [] once = refl
-twice-filter p (t ∷ ts) once =
-    let both = and_parts (not (list_any (λ u. bytes_eq u t) ts)) (no_text_twice ts) once in
-    by_test (p t) refl both.0 (twice-filter p ts both.1)
-  where
-    kept_out : (b c : Bool) → not b ≡ true → (b ≡ false → c ≡ false) → not c ≡ true
-    kept_out true c e step = absurd (false≢true e)
-    kept_out false c e step = let out : c ≡ false = step refl in rw out refl
-
-    by_test : (kept : Bool) → p t ≡ kept → not (list_any (λ u. bytes_eq u t) ts) ≡ true → no_text_twice (filter p ts) ≡ true → no_text_twice (filter p (t ∷ ts)) ≡ true
-    by_test true k out rest = rw k (and_from (not (list_any (λ u. bytes_eq u t) (filter p ts))) (no_text_twice (filter p ts)) (kept_out (list_any (λ u. bytes_eq u t) ts) (list_any (λ u. bytes_eq u t) (filter p ts)) out (none-filter p t ts)) rest)
-    by_test false k out rest = rw k rest
-
-without_itself : (t : List ℕ) (ts : List (List ℕ)) → list_any (λ u. bytes_eq u t) (filter (λ u. not (bytes_eq u t)) ts) ≡ false
-without_itself t [] = refl
-without_itself t (u ∷ us) = by_test (bytes_eq u t) refl (without_itself t us)
-  where
-    by_test : (same : Bool) → bytes_eq u t ≡ same → list_any (λ w. bytes_eq w t) (filter (λ w. not (bytes_eq w t)) us) ≡ false → list_any (λ w. bytes_eq w t) (filter (λ w. not (bytes_eq w t)) (u ∷ us)) ≡ false
-    by_test true e rest = rw e rest
-    by_test false e rest = rw e (rw e rest)
-
-twice-texts_once : (ts : List (List ℕ)) → no_text_twice (texts_once ts) ≡ true
-twice-texts_once [] = refl
-twice-texts_once (t ∷ ts) =
-    let out = without_itself t (texts_once ts) in
-    let rest = twice-filter (λ u. not (bytes_eq u t)) (texts_once ts) (twice-texts_once ts) in
-    rw (out, rest) refl
 
 table_keys_distinct : (r : Rows) → AreDistinct (table_keys r)
 unfolding table_keys table_texts
@@ -228,7 +190,7 @@ buckets_within : (r : Rows) → AreRows r → CanWrite r → AllByRecursion (Are
 unfolding table_buckets dep_lists
 buckets_within r are can =
     let count = length (table_entries r) in
-    let few = few_rows r can in
+    let few = few_rows r (few_from r are can) in
     let rows : length (row_numbers r) ≡ count = count_rows r ∙ sym (count_entries r) in
     let front = subst (λ n. AllByRecursion (AreEntries n) (map (lists_with (row_numbers r)) (range_with_len 0 (length (table_texts r))))) rows (rows_with (row_numbers r) (range_with_len 0 (length (table_texts r))) (omega (arith, few, count_rows r))) in
     let deps = lists_within (length r.bundles) count r.assets (omega (arith, count_entries r)) (omega (arith, few, count_entries r)) (all_deps (length r.bundles) r.assets are.deps) in
@@ -349,20 +311,20 @@ count_kinds r some = by_test (length (row_ids r) == 0) refl
 
 bundle_can : (r : Rows) (i : ℕ) (b : BundleRow) → AreRows r → CanWrite r → i < length r.bundles → length (extra_text (bundle_entry r i b)) < 2 ^ 31 → CanWriteRow (length (row_ids r)) 2 (length (table_keys r)) (length (row_kinds r)) (bundle_entry r i b)
 bundle_can r i b are can less small =
-    let few = few_rows r can in
+    let few = few_rows r (few_from r are can) in
     let primary = primary_within r i are can (omega (arith, less)) in
     record {
       internal = within (length (row_ids r)) i (omega (arith, less, count_ids r)) (omega (arith, less, few));
       provider = within 2 0 (omega arith) (omega arith);
       dep = tt;
-      primary = within (length (table_keys r)) (primary_of r i) (omega (arith, count_keys r, primary)) (omega (arith, few_keys r can, primary));
+      primary = within (length (table_keys r)) (primary_of r i) (omega (arith, count_keys r, primary)) (omega (arith, few_keys r (few_from r are can), primary));
       kind = within (length (row_kinds r)) 0 (omega (arith, count_kinds r (omega (arith, less)))) (omega arith);
       extra = options_small b small;
     }
 
 asset_can : (r : Rows) (i : ℕ) (a : AssetRow) → AreRows r → CanWrite r → slice_get r.assets i ≡ Some a → HasDeps (length r.bundles) a.deps → IsNumbered r.keys r.kinds a → CanWriteRow (length (row_ids r)) 2 (length (table_keys r)) (length (row_kinds r)) (asset_entry r (length r.bundles + i) a)
 asset_can r i a are can is deps numbered =
-    let few = few_rows r can in
+    let few = few_rows r (few_from r are can) in
     let less = slice_get_within r.assets i a is in
     let row = length r.bundles + i in
     let primary = primary_within r row are can (omega (arith, less)) in
@@ -371,8 +333,8 @@ asset_can r i a are can is deps numbered =
     record {
       internal = within (length (row_ids r)) row (omega (arith, less, count_ids r)) (omega (arith, less, few));
       provider = within 2 1 (omega arith) (omega arith);
-      dep = within (length (table_keys r)) (dep_key r (dep_numbers a)) dep (omega (arith, dep, few_keys r can, count_keys r));
-      primary = within (length (table_keys r)) (primary_of r row) (omega (arith, count_keys r, primary)) (omega (arith, few_keys r can, primary));
+      dep = within (length (table_keys r)) (dep_key r (dep_numbers a)) dep (omega (arith, dep, few_keys r (few_from r are can), count_keys r));
+      primary = within (length (table_keys r)) (primary_of r row) (omega (arith, count_keys r, primary)) (omega (arith, few_keys r (few_from r are can), primary));
       kind = within (length (row_kinds r)) (a.kind.0 + 1) (omega (arith, numbered.0, count_kinds r (omega (arith, less)))) (omega (arith, numbered.0, kinds, few));
       extra = tt;
     }
@@ -401,15 +363,15 @@ entries_can r are can =
 
 -- ---- the whole
 
-pub few_ids : (r : Rows) → CanWrite r → length (row_ids r) < 2 ^ 31
-few_ids r can = omega (arith, few_rows r can, count_ids r)
+pub few_ids : (r : Rows) → AreRows r → CanWrite r → length (row_ids r) < 2 ^ 31
+few_ids r are can = omega (arith, few_rows r (few_from r are can), count_ids r)
 
 pub few_types : (r : Rows) → AreRows r → CanWrite r → length (row_kinds r) < 2 ^ 32
 few_types r are can = by_test (length (row_ids r) == 0) refl
   where
     by_test : (none : Bool) → (length (row_ids r) == 0) ≡ none → length (row_kinds r) < 2 ^ 32
     by_test true e = rw e (omega arith)
-    by_test false e = rw e (omega (arith, few_rows r can, texts.few_kinds r are.numbers))
+    by_test false e = rw e (omega (arith, few_rows r (few_from r are can), texts.few_kinds r are.numbers))
 
 rows_can : (r : Rows) → AreRows r → CanWrite r → CanEncode (table_rows r) (length (row_ids r)) 2 (length (row_kinds r))
 rows_can r are can = record {

@@ -9,6 +9,7 @@ pub mod GoodLemmas
 pub mod ListedLemmas
 pub mod PlanLemmas
 pub mod RowLemmas
+pub mod FewLemmas
 pub mod EncodeLemmas
 pub mod WriterLemmas
 pub mod AmongLemmas

@@ -1,7 +1,8 @@
 -- The texts of keys, listed one after the other up to the last, and how many keys there are: for `Plan::of`.
-use Rattle.std.proofs.Common.{ℕ, ◌≡◌, ◌+◌, ◌≤◌, ◌<◌, ◌⊎◌, List, [], ◌∷◌, ◌++◌, length, map, take, get_or, Some, None, Bor, refl, sym, ap, ◌∙◌, inl, inr, append_assoc, filter, ◌^◌, arith, length-append, ℤ, pos, to_z}
-use Rattle.std.specs.List.{slice_get, range_with_len, flat_map}
+use Rattle.std.proofs.Common.{ℕ, ◌≡◌, ◌+◌, ◌≤◌, ◌<◌, ◌⊎◌, List, [], ◌∷◌, ◌++◌, length, map, take, get_or, Some, None, Bor, refl, sym, ap, ◌∙◌, inl, inr, not, append_assoc, filter, ◌^◌, arith, length-append, ℤ, pos, to_z}
+use Rattle.std.specs.List.{slice_get, range_with_len}
 use Rattle.std.proofs.lemmas.List.{map-append, length-map, take_more, take_all}
+use Rattle.std.proofs.lemmas.List.Filters.{length-filter_both}
 use Rattle.std.proofs.lemmas.List.FromFn.{length-map-range_with_len, map-range_with_len_more}
 use Rattle.std.proofs.lemmas.Simd.{map-map}
 use Rattle.std.proofs.lemmas.Int.{to_z_pos}
@@ -10,11 +11,11 @@ use Rattle.std.proofs.lemmas.Option.{slice_get_within, get_or_from_slice_get, sl
 use Rattle.addr_catalog.specs.Inverted.{lists_with}
 use Rattle.addr_keys.specs.declared.key.Key.{Key}
 use Rattle.addr_keys.specs.declared.key.Key.TheVariants.{Text, I32}
-use Rattle.addr_catalog.specs.Written.{table_texts, dep_lists, dep_numbers, is_several, row_numbers, table_keys, table_buckets, CanWrite}
+use Rattle.addr_catalog.specs.Written.{table_texts, dep_lists, dep_numbers, is_several, row_numbers, table_keys, table_buckets}
+use Rattle.addr_catalog.specs.Few.{AreFew}
 use Rattle.addr_locate.specs.Rows.{Rows, texts_once}
-use Rattle.addr_tables.specs.Format.{bucket_numbers, bucket_table}
-use Rattle.addr_tables.specs.Written.{buckets_from}
-use Rattle.addr_tables.proofs.WrittenLemmas.{length-table, two_each, length-buckets}
+use Rattle.addr_locate.specs.declared.rows.BundleRow.{BundleRow}
+use Rattle.addr_locate.proofs.TextLemmas.{length-texts_once-le}
 
 -- what stands behind so many of a list
 pub at_place : {X : Type 0} (xs : List X) (n : ℕ) (x : X) → slice_get xs n ≡ Some x → take (n + 1) xs ≡ take n xs ++ x ∷ []
@@ -52,23 +53,23 @@ paired r =
     let buckets = length-append (map (lists_with (row_numbers r)) (range_with_len 0 texts)) (dep_lists r) ∙ ap (λ n. n + lists) (length-map-range_with_len (lists_with (row_numbers r)) 0 texts) in
     buckets ∙ sym (count_keys r)
 
-few_buckets : (keys : List Key) (nss : List (List ℕ)) → length nss ≡ length keys → length (bucket_table (buckets_from 4 keys nss)) < 2 ^ 31 → length keys < 2 ^ 30
-unfolding bucket_table
-few_buckets keys nss same small =
-    let bs = buckets_from 4 keys nss in
-    omega (arith, length-table (length bs ∷ flat_map bucket_numbers bs), two_each bs, length-buckets 4 keys nss same)
+pub few_keys : (r : Rows) → AreFew r → length (table_texts r) + length (dep_lists r) < 2 ^ 30
+unfolding table_texts dep_lists
+few_keys r few =
+    let front = map (λ (b : BundleRow). b.key) r.bundles in
+    let lists = map dep_numbers r.assets in
+    let texts = length-texts_once-le (front ++ r.keys) in
+    let kept = length-texts_once-le (filter is_several lists) in
+    omega (arith, few, texts, length-append front r.keys, length-map r.bundles (λ (b : BundleRow). b.key), kept, length-filter_both is_several (λ (ns : List ℕ). not (is_several ns)) (λ ns. refl) lists, length-map r.assets dep_numbers)
 
-pub few_keys : (r : Rows) → CanWrite r → length (table_texts r) + length (dep_lists r) < 2 ^ 30
-few_keys r can = let few = few_buckets (table_keys r) (table_buckets r) (paired r) can.bucket_small in omega (arith, few, count_keys r)
-
-pub few_texts : (r : Rows) (texts : List (Bor (List ℕ))) → CanWrite r → map (λ t. t.now) texts ≡ map (λ b. b.key) r.bundles ++ r.keys → length (texts_once (map (λ t. t.now) texts)) < 2 ^ 32
+pub few_texts : (r : Rows) (texts : List (Bor (List ℕ))) → AreFew r → map (λ t. t.now) texts ≡ map (λ b. b.key) r.bundles ++ r.keys → length (texts_once (map (λ t. t.now) texts)) < 2 ^ 32
 unfolding table_texts
-few_texts r texts can are = let few = few_keys r can in let same = ap (λ ts. length (texts_once ts)) are in omega (arith, few, same)
+few_texts r texts small are = let few = few_keys r small in let same = ap (λ ts. length (texts_once ts)) are in omega (arith, few, same)
 
-pub few_lists : (r : Rows) (lists : List (Bor (List ℕ))) (deps : List (List ℕ)) → CanWrite r → deps ≡ map dep_numbers r.assets → map (λ l. l.now) lists ≡ filter is_several deps → length (texts_once (map (λ l. l.now) lists)) < 2 ^ 32
+pub few_lists : (r : Rows) (lists : List (Bor (List ℕ))) (deps : List (List ℕ)) → AreFew r → deps ≡ map dep_numbers r.assets → map (λ l. l.now) lists ≡ filter is_several deps → length (texts_once (map (λ l. l.now) lists)) < 2 ^ 32
 unfolding dep_lists
-few_lists r lists deps can listed are =
-    let few = few_keys r can in
+few_lists r lists deps small listed are =
+    let few = few_keys r small in
     let same = ap (λ ts. length (texts_once ts)) (are ∙ ap (filter is_several) listed) in
     omega (arith, few, same)
 

@@ -1,5 +1,5 @@
 -- What the rows of a locator keep, and that the numbers which they are written with name something.
-use Rattle.std.proofs.Common.{ℕ, zero, suc, ◌≡◌, ◌+◌, ◌<◌, ◌≤◌, ◌^◌, Bool, true, false, ◌||◌, not, nat_lt, List, [], ◌∷◌, ◌++◌, length, map, take, get_or, append_assoc, Bor, refl, sym, ap, subst, ◌∙◌, arith, length-append}
+use Rattle.std.proofs.Common.{ℕ, zero, suc, ◌≡◌, ◌+◌, ◌<◌, ◌≤◌, ◌^◌, Bool, true, false, ◌||◌, not, List, [], ◌∷◌, ◌++◌, length, map, take, get_or, append_assoc, Bor, refl, sym, ap, subst, ◌∙◌, arith, length-append}
 use Rattle.std.specs.List.{list_any, flat_map, enumerate_from, AllByRecursion}
 use Rattle.std.specs.Str.{bytes_eq}
 use Rattle.std.proofs.lemmas.Bool.Decides.{nat_tests}
@@ -11,13 +11,14 @@ use Rattle.addr_base.specs.declared.ids.KeyNo.{KeyNo}
 use Rattle.addr_locate.specs.declared.rows.AssetRow.{AssetRow}
 use Rattle.addr_locate.specs.declared.rows.BundleRow.{BundleRow}
 use Rattle.addr_locate.specs.declared.rows.PlainAsset.{PlainAsset}
-use Rattle.addr_locate.specs.Rows.{Rows, AreRows, texts_once, text_at, place_of, numbered, written, rows_of, keys_of, kinds_of}
+use Rattle.addr_locate.specs.Rows.{Rows, AreRows, text_at, place_of, numbered, written, rows_of, keys_of, kinds_of}
 use Rattle.addr_locate.proofs.TextLemmas.{text_is_itself, any-texts_once}
 use Rattle.addr_locate.proofs.TextLemmas as texts
 use Rattle.addr_catalog.specs.Inverted.{AreNumbersBelow}
-use Rattle.addr_catalog.specs.Written.{table_texts, bundle_numbers, asset_numbers, row_numbers, dep_lists, table_entries, bundle_entry, asset_entry, each_numbered, CanWrite}
+use Rattle.addr_catalog.specs.Written.{table_texts, bundle_numbers, asset_numbers, row_numbers, dep_lists, table_entries, bundle_entry, asset_entry, each_numbered}
+use Rattle.addr_catalog.specs.Few.{AreFew}
 use Rattle.addr_tables.proofs.RowLemmas.{all_more}
-use Rattle.addr_tables.proofs.WrittenLemmas.{entries_few, all_at}
+use Rattle.addr_tables.proofs.WrittenLemmas.{all_at}
 use Rattle.addr_catalog.proofs.PlanLemmas.{few_keys}
 
 or_true : (b : Bool) → (b || true) ≡ true
@@ -132,17 +133,17 @@ count_rows r =
     let assets = length-map r.assets (asset_numbers (table_texts r) r) in
     length-append (map (bundle_numbers (table_texts r)) r.bundles) (map (asset_numbers (table_texts r) r) r.assets) ∙ rw (bundles, assets) refl
 
-pub few_rows : (r : Rows) → CanWrite r → length r.bundles + length r.assets < 2 ^ 31
-few_rows r can = let few = entries_few (table_entries r) can.entry_small in omega (arith, few, count_entries r)
+pub few_rows : (r : Rows) → AreFew r → length r.bundles + length r.assets < 2 ^ 31
+few_rows r few = omega (arith, few)
 
 pub count_texts : (texts : List (Bor (List ℕ))) (lists : List (List ℕ)) → map (λ t. t.now) texts ≡ lists → length texts ≡ length lists
 count_texts texts lists are = sym (length-map texts (λ (t : Bor (List ℕ)). t.now)) ∙ ap length are
 
 -- the numbers of keys are small, from the first text to the last list
-pub few_places : (r : Rows) (lists : List (Bor (List ℕ))) (ns : List ℕ) (place : ℕ) → CanWrite r → map (λ l. l.now) lists ≡ dep_lists r → place ≡ place_of (map (λ l. l.now) lists) ns → length (table_texts r) + place < 2 ^ 30
-few_places r lists ns place can are is =
+pub few_places : (r : Rows) (lists : List (Bor (List ℕ))) (ns : List ℕ) (place : ℕ) → AreFew r → map (λ l. l.now) lists ≡ dep_lists r → place ≡ place_of (map (λ l. l.now) lists) ns → length (table_texts r) + place < 2 ^ 30
+few_places r lists ns place few are is =
     let at = is ∙ ap (λ ls. place_of ls ns) are in
-    omega (arith, few_keys r can, at, place_or_end (dep_lists r) ns)
+    omega (arith, few_keys r few, at, place_or_end (dep_lists r) ns)
 
 -- ---- entries, one after the other
 
@@ -166,7 +167,7 @@ all_put P xs i x is within all this =
     subst (AllByRecursion P) (sym more) (all_more P (take i xs) x all this)
 
 -- the type of a row has a small number
-pub few_kinds : (r : Rows) (i : ℕ) (a : AssetRow) → AreRows r → CanWrite r → a ≡ get_or r.assets i a → i < length r.assets → a.kind.0 < 2 ^ 31
-few_kinds r i a are can is within =
+pub few_kinds : (r : Rows) (i : ℕ) (a : AssetRow) → AreRows r → AreFew r → a ≡ get_or r.assets i a → i < length r.assets → a.kind.0 < 2 ^ 31
+few_kinds r i a are few is within =
     let sound : IsNumbered r.keys r.kinds a = subst (IsNumbered r.keys r.kinds) (sym is) (all_at (IsNumbered r.keys r.kinds) r.assets i a within (sound_rows r are)) in
-    omega (arith, sound.0, texts.few_kinds r are.numbers, few_rows r can)
+    omega (arith, sound.0, texts.few_kinds r are.numbers, few_rows r few)

@@ -9,5 +9,6 @@ pub mod TableRows
 pub mod Catalogue
 pub mod Listed
 pub mod Written
+pub mod Few
 pub mod ReadBack
 pub mod ReadsAlike

@@ -1,7 +1,8 @@
 // What the rows of a locator are written with: the texts of all keys, each once, the numbers of each row's keys, and the lists
 // of dependencies that need a key of their own.
 ghost use Rattle.std.specs.Prelude.{◌≡◌, ◌<◌, ◌^◌, ◌++◌, map, filter, length, IfOk, unwrap_or, slice_get};
-ghost use Rattle.addr_catalog.specs.Written.{table_texts, bundle_numbers, asset_numbers, row_numbers, dep_numbers, is_several, dep_lists, primary_of, CanWrite};
+ghost use Rattle.addr_catalog.specs.Written.{table_texts, bundle_numbers, asset_numbers, row_numbers, dep_numbers, is_several, dep_lists, primary_of};
+ghost use Rattle.addr_catalog.specs.Few.{AreFew};
 ghost use Rattle.addr_locate.specs.Rows.{texts_once, place_of, text_at};
 
 use crate::listed::Numbered;
@@ -141,7 +142,7 @@ impl<'a> Plan<'a> {
         deps: &'a [Items<u32>],
     ) -> Result<Plan<'a>, NoMemory>
         requires listed { deps.now ≡ map dep_numbers locator.now.assets }
-        requires small { CanWrite locator.now }
+        requires few { AreFew locator.now }
         ensures { IfOk result (λ plan. plan.locator.now ≡ locator.now) }
     {
         let texts = key_texts(alloc, locator)?;

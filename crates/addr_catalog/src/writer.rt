@@ -152,7 +152,7 @@ fn write(alloc: Global, catalogue: &Catalogue) -> Result<Vec<u8>, NoMemory>
 }
 
 /// Writes a catalogue (docs/formats/catalogue.md). Time and memory are linear in the size of the rows and of the text, but for
-/// the ordered maps in which keys and lists of dependencies are looked up.
+/// the ordered maps in which keys and lists of dependencies are looked up. Whether it may be called is what `can_write` answers.
 pub fn write_catalog(alloc: Global, catalogue: &Catalogue) -> Result<Vec<u8>, NoMemory>
     requires { CanWrite catalogue.now.locator }
     // It is the one text that is described.

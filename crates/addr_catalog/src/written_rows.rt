@@ -1,7 +1,8 @@
 // The rows of tables that are written for a locator's rows: bundles first, then assets.
 ghost use Rattle.std.specs.Prelude.{◌≡◌, ◌<◌, ◌^◌, ◌++◌, map, length, pos, IfOk, OnOk};
 ghost use Rattle.std.specs.List.{AllByRecursion};
-ghost use Rattle.addr_catalog.specs.Written.{table_keys, table_buckets, dep_numbers, dep_key, dep_hash, options_key, bundle_entry, asset_entry, table_entries, table_rows, each_numbered, HasOptions, CanWrite};
+ghost use Rattle.addr_catalog.specs.Written.{table_keys, table_buckets, dep_numbers, dep_key, dep_hash, options_key, bundle_entry, asset_entry, table_entries, table_rows, each_numbered, HasOptions};
+ghost use Rattle.addr_catalog.specs.Few.{AreFew};
 
 use crate::inverted::invert;
 use crate::plan::Plan;
@@ -15,7 +16,7 @@ use std::alloc::Global;
 /// A Text key for each text, and for each list of dependencies its number from 1.
 #[tactic(auto, unfolding(crate::specs::Written::table_keys))]
 fn table_keys(alloc: Global, plan: &Plan<'_>) -> Result<Items<Key>, NoMemory>
-    requires { CanWrite plan.now.locator.now }
+    requires { AreFew plan.now.locator.now }
     ensures { IfOk result (λ keys. keys ≡ table_keys plan.now.locator.now) }
 {
     let mut keys = Items::new(alloc);
@@ -31,7 +32,7 @@ fn table_keys(alloc: Global, plan: &Plan<'_>) -> Result<Items<Key>, NoMemory>
 /// The rows that have each text, and the bundles of each list.
 #[tactic(auto, unfolding(crate::specs::Written::table_buckets))]
 fn table_buckets(alloc: Global, plan: &Plan<'_>) -> Result<Items<Items<u32>>, NoMemory>
-    requires { CanWrite plan.now.locator.now }
+    requires { AreFew plan.now.locator.now }
     ensures { IfOk result (λ buckets. buckets ≡ table_buckets plan.now.locator.now) }
 {
     plan.locator.are_rows();
@@ -89,7 +90,7 @@ fn bundle_entry(
 /// The number of the key whose bucket holds these bundles.
 #[tactic(auto, unfolding(crate::specs::Written::dep_key))]
 fn dep_key<'a>(plan: &Plan<'a>, deps: &'a [u32]) -> u32
-    requires { CanWrite plan.now.locator.now }
+    requires { AreFew plan.now.locator.now }
     ensures { result ≡ dep_key plan.now.locator.now deps.now }
 {
     match deps {
@@ -100,7 +101,7 @@ fn dep_key<'a>(plan: &Plan<'a>, deps: &'a [u32]) -> u32
 
 #[tactic(auto, unfolding(crate::specs::Written::dep_hash))]
 fn dep_hash<'a>(plan: &Plan<'a>, deps: &'a [u32]) -> u32
-    requires { CanWrite plan.now.locator.now }
+    requires { AreFew plan.now.locator.now }
     ensures hash { result ≡ dep_hash plan.now.locator.now deps.now }
     ensures small { result < 2 ^ 31 }
 {
@@ -111,7 +112,7 @@ fn dep_hash<'a>(plan: &Plan<'a>, deps: &'a [u32]) -> u32
 }
 
 fn asset_entry<'a>(plan: &Plan<'a>, row: u32, asset: &AssetRow, deps: &'a [u32]) -> EntryRow
-    requires small { CanWrite plan.now.locator.now }
+    requires few { AreFew plan.now.locator.now }
     requires deps { deps.now ≡ dep_numbers asset.now }
     requires kind { asset.now.kind.0 < 2 ^ 31 }
     ensures { result ≡ asset_entry plan.now.locator.now row asset.now }
@@ -133,7 +134,7 @@ fn push_bundles(
     plan: &Plan<'_>,
     entries: &mut Items<EntryRow>,
 ) -> Result<(), NoMemory>
-    requires { CanWrite plan.now.locator.now }
+    requires { AreFew plan.now.locator.now }
     ensures put { OnOk result (entries.new ≡ entries.old ++ each_numbered (bundle_entry plan.now.locator.now) 0 plan.now.locator.now.bundles) }
     ensures again { OnOk result (AllByRecursion HasOptions plan.now.locator.now.bundles) }
 {
@@ -145,7 +146,7 @@ fn push_bundles(
 
 /// Appends the entries of the assets.
 fn push_assets(plan: &Plan<'_>, entries: &mut Items<EntryRow>) -> Result<(), NoMemory>
-    requires { CanWrite plan.now.locator.now }
+    requires { AreFew plan.now.locator.now }
     ensures { OnOk result (entries.new ≡ entries.old ++ each_numbered (asset_entry plan.now.locator.now) (length plan.now.locator.now.bundles) plan.now.locator.now.assets) }
 {
     plan.locator.are_rows();
@@ -159,7 +160,7 @@ fn push_assets(plan: &Plan<'_>, entries: &mut Items<EntryRow>) -> Result<(), NoM
 
 #[tactic(auto, unfolding(crate::specs::Written::table_entries))]
 fn table_entries(alloc: Global, plan: &Plan<'_>) -> Result<Items<EntryRow>, NoMemory>
-    requires { CanWrite plan.now.locator.now }
+    requires { AreFew plan.now.locator.now }
     ensures entries { IfOk result (λ entries. entries ≡ table_entries plan.now.locator.now) }
     ensures again { OnOk result (AllByRecursion HasOptions plan.now.locator.now.bundles) }
 {
@@ -171,7 +172,7 @@ fn table_entries(alloc: Global, plan: &Plan<'_>) -> Result<Items<EntryRow>, NoMe
 
 /// The rows of tables for the plan's locator.
 pub fn table_rows(alloc: Global, plan: &Plan<'_>) -> Result<Rows, NoMemory>
-    requires { CanWrite plan.now.locator.now }
+    requires { AreFew plan.now.locator.now }
     ensures rows { IfOk result (λ rows. rows ≡ table_rows plan.now.locator.now) }
     ensures again { OnOk result (AllByRecursion HasOptions plan.now.locator.now.bundles) }
 {

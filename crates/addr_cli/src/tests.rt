@@ -1,9 +1,11 @@
 // What no clause says: replies worked out by hand, the places of faults, and that each run can succeed.
-ghost use Rattle.std.specs.Prelude.{◌<◌};
+ghost use Rattle.std.specs.Prelude.{◌<◌, ◌^◌, length};
 
 use crate::runner::run;
 use crate::status::Status;
-use addr_base::{Items, MemConn, MemDepot, MemFile, Text};
+use addr_base::{Digest, Items, MemConn, MemDepot, MemFile, Text};
+use addr_catalog::{Catalogue, can_write, write_catalog};
+use addr_locate::read_rows;
 use std::alloc::Global;
 use std::fmt::Write;
 use std::test::Fail;
@@ -331,6 +333,30 @@ fn prints_the_rows_of_catalogues(rt: HostRuntime) -> Result<(), Fail> {
     }
     let none = Vec::new(rt.alloc());
     assert!(rt; ends(rt.alloc(), "rows c", none, NO_FAULT, 5, "error 5 c\n")?);
+    Ok(())
+}
+
+/// The catalogue of plain rows with the state of 16 zero bytes, where it can be written.
+fn catalogue_of(alloc: Global, rows: &str) -> Result<Option<Vec<u8>>, Fail>
+    requires { length rows.now < 2 ^ 32 }
+{
+    let Ok(locator) = read_rows(alloc, rows.as_bytes()) else {
+        return Ok(None);
+    };
+    let catalogue = Catalogue {
+        locator,
+        state: Some(Digest([0; 16])),
+    };
+    if !can_write(alloc, &catalogue.locator)? {
+        return Ok(None);
+    }
+    Ok(Some(write_catalog(alloc, &catalogue)?))
+}
+
+#[test]
+fn the_worked_rows_are_written(rt: HostRuntime) -> Result<(), Fail> {
+    let written = catalogue_of(rt.alloc(), worked::ROWS)?;
+    assert!(rt; written.is_some_and(|text| text.as_slice() == catalogued::WRITTEN.as_bytes()));
     Ok(())
 }
 

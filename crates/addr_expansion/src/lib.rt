@@ -16,4 +16,4 @@ mod tests;
 pub use error::ExpandErr;
 pub use expanding::{expand, expansion_is_meant};
 pub use extent::Extent;
-pub use replies::{Replies, first_bad, first_circular, is_bad, is_circular, replies_of};
+pub use replies::{Replies, first_bad, first_circular, is_bad, replies_of};

@@ -49,7 +49,7 @@ pub fn is_bad(reply: &Extent) -> bool
     }
 }
 
-pub fn is_circular(reply: &Extent) -> bool
+fn is_circular(reply: &Extent) -> bool
     ensures { result ≡ is_circular (answer_of reply.now) }
 {
     match reply {

@@ -176,15 +176,6 @@ size-deps step b n (found, list, is) = (
         by_case (inl same) = list.all c (subst (Leads step b) same stays)
         by_case (inr later) = list.all c (rest.within c later).1
 
--- the bundles among what a search found, by their number
-pub linked-size : (links : List (List ℕ)) (bundles b : ℕ) (found : List ℕ) → IsListOf nat_cmp (LedTo links (b ∷ [])) found → IsSizeOf (IsLinked links bundles b) (count_by (λ c. nat_lt c bundles) found)
-linked-size links bundles b found list = (
-  filter (λ c. nat_lt c bundles) found,
-  IsListOf-same (λ c. (nat_lt c bundles ≡ true) × LedTo links (b ∷ []) c) (IsLinked links bundles b) (λ c (small, led). (ltb-true c bundles small, led)) (λ c (below, led). (lt-ltb c bundles below, led))
-      (filter (λ c. nat_lt c bundles) found) (IsListOf-filter (LedTo links (b ∷ [])) (λ c. nat_lt c bundles) found list),
-  sym (length-filter (λ c. nat_lt c bundles) found),
-)
-
 -- ---- walks
 
 module _ (p : Project) (plan : Plan) (graph : Graph) (kept : IsKept p) (shared : IsShared p plan) (is : IsGraph p plan graph) where

@@ -1,7 +1,7 @@
 -- Links of a placement: bundles and assets as numbers of one kind, the bundles first and behind them the assets by rank.
-use Rattle.std.specs.Prelude.{ℕ, ◌<◌, ◌+◌, List, [], ◌∷◌, ◌++◌, map, length, Option, Some, None, slice_index_or}
+use Rattle.std.specs.Prelude.{ℕ, ◌+◌, List, [], ◌∷◌, ◌++◌, map, length, Option, Some, None, slice_index_or}
 use Rattle.std.specs.List.{flat_map}
-use Rattle.addr_walks.specs.Rows.{LedTo}
+use Rattle.addr_walks.specs.Rows.{LedBelow}
 use Rattle.addr_layout.specs.declared.graph.Graph.{Graph}
 use Rattle.addr_layout.specs.Graph.{refs_at}
 
@@ -24,4 +24,4 @@ links_of graph = map (flat_map (links_at graph)) graph.seeds ++ map (map (link_a
 
 -- links lead from a bundle to one of so many bundles
 abbrev pub IsLinked : List (List ℕ) → ℕ → ℕ → ℕ → Type 0
-IsLinked links bundles b c = (c < bundles) × LedTo links (b ∷ []) c
+IsLinked links bundles b c = LedBelow links (b ∷ []) bundles c

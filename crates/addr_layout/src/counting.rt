@@ -1,7 +1,6 @@
 // Whole counts over all bundles, for limits that are tested before anything is held: one bundle's marks at a time.
-ghost use Rattle.std.specs.Prelude.{◌≡◌, ◌<◌, ◌^◌, nat_lt, length, IfOk};
+ghost use Rattle.std.specs.Prelude.{◌≡◌, ◌<◌, ◌^◌, length, IfOk};
 ghost use Rattle.std.specs.Bool.{MatchBool};
-ghost use Rattle.std.specs.List.{count_by};
 ghost use Rattle.addr_walks.specs.Rows.{AreBelow, IsSizeOf, LedTo};
 ghost use Rattle.addr_layout.specs.Counts.{IsDepsCount, IsMembersCount};
 ghost use Rattle.addr_layout.specs.Graph.{IsSized, seeds_at};
@@ -62,14 +61,13 @@ pub fn deps_count(alloc: Global, project: &Project, plan: &Plan) -> Result<u64, 
     let bundles = plan.bundles.len();
     let mut total = 0;
     for b in 0..bundles {
-        let count = dep_count(alloc, links, &mut search, bundles, b as u32)?;
+        let count = dep_count(links, &mut search, bundles, b as u32)?;
         total += count as u64;
     }
     Ok(total)
 }
 
 fn dep_count(
-    alloc: Global,
     links: &[Items<u32>],
     search: &mut Search,
     bundles: usize,
@@ -81,13 +79,6 @@ fn dep_count(
     ensures size { search.new ≡ search.old }
     ensures count { IfOk result (IsSizeOf (IsLinked links.now bundles b)) }
 {
-    let found = search.reached(alloc, links, &[b])?;
-    let count = count_below(found.as_slice(), bundles);
+    let count = search.count_below(links, &[b], bundles)?;
     Ok(count)
-}
-
-fn count_below(numbers: &[u32], bound: usize) -> usize
-    ensures { result ≡ count_by (λ c. nat_lt c bound) numbers.now }
-{
-    numbers.iter().filter(|c| (**c as usize) < bound).count()
 }

@@ -18,7 +18,7 @@ mod placing;
 #[cfg(test)]
 mod tests;
 
-pub use addr_walks::{closed, closed_size};
+pub use addr_walks::closed;
 pub use counting::{deps_count, members_count};
 pub use laws::{dependencies_begin_once, direct_closes, placement_is_shared, walk_agrees};
 pub use laying::layout;

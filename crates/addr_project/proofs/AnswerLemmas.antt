@@ -4,6 +4,7 @@ use Rattle.addr_base.specs.declared.files.MemFile.{MemFile}
 use Rattle.addr_project.specs.declared.error.ProjectErr.{ProjectErr}
 use Rattle.addr_project.specs.Laws.{HasOneAnswer}
 use Rattle.addr_project.specs.Model.{Project}
+use Rattle.addr_project.proofs.NeverLemmas.{folder_never}
 use Rattle.addr_project.specs.Reading.{reply_of_folder}
 
 some_answer : (answer : Result Project ProjectErr) → ((p : Project) × (answer ≡ Ok p)) ⊎ ((fault : ProjectErr) × (answer ≡ Err fault))
@@ -27,4 +28,6 @@ one_answer files folder =
       never_both = ok_or_err answer;
       one_project = one_ok answer;
       one_fault = one_err answer;
+      never_memory = (folder_never files folder).0;
+      never_depot = (folder_never files folder).1;
     }

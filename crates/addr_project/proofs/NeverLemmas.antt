@@ -1,132 +1,168 @@
--- The tests of a project file never answer a fault of the depot.
-use Rattle.std.proofs.Common.{◌≡◌, ℕ, nat_lt, Bool, true, false, cond, List, [], ◌∷◌, length, Option, Some, None, Result, Ok, Err}
+-- The tests of a folder never answer want of memory or a fault of the depot.
+use Rattle.std.proofs.Common.{◌≡◌, ℕ, nat_lt, Bool, true, false, cond, List, [], ◌∷◌, ◌++◌, length, map, Option, Some, None, Result, Ok, Err, refl, subst}
 use Rattle.std.specs.Option.{option_or, option_map, is_none}
+use Rattle.std.specs.Prelude.{codes, ◌+◌}
+use Rattle.std.specs.List.{sum}
 use Rattle.toml.specs.Data.{Members}
+use Rattle.addr_base.specs.declared.files.MemFile.{MemFile}
+use Rattle.addr_base.specs.declared.ids.Guid.{Guid}
+use Rattle.addr_base.specs.declared.var.Var.{Var}
+use Rattle.addr_base.specs.Files.{file_at}
 use Rattle.addr_expansion.specs.declared.error.ExpandErr.{ExpandErr}
 use Rattle.addr_expansion.specs.declared.error.ExpandErr.TheVariants as expanding
 use Rattle.addr_project.specs.declared.error.ProjectErr.{ProjectErr}
-use Rattle.addr_project.specs.declared.error.ProjectErr.TheVariants.{DepotFault, BadField, OverLimit, DuplicateGuid, DuplicateGroup, ReservedGroup, UnknownGroup, UnknownRef, BadVariable, VariableCycle}
+use Rattle.addr_project.specs.declared.error.ProjectErr.TheVariants.{NoMemory, DepotFault, BadField, OverLimit, DuplicateGuid, DuplicateGroup, ReservedGroup, UnknownGroup, UnknownRef, BadVariable, VariableCycle, MissingFile}
 use Rattle.addr_project.specs.declared.limit.Limit.{Limit}
 use Rattle.addr_project.specs.declared.limit.Limit.TheVariants as limit
 use Rattle.addr_project.specs.declared.limit.Part.{Part}
 use Rattle.addr_project.specs.declared.limit.Part.TheVariants as part
-use Rattle.addr_base.specs.declared.ids.Guid.{Guid}
-use Rattle.addr_base.specs.declared.var.Var.{Var}
 use Rattle.addr_project.specs.declared.model.Group.{Group}
 use Rattle.addr_project.specs.declared.rows.AssetRow.{AssetRow}
 use Rattle.addr_project.specs.declared.rows.EntryRow.{EntryRow}
 use Rattle.addr_project.specs.declared.rows.ProjectFile.{ProjectFile}
 use Rattle.addr_project.specs.Faults.{over, over_labels, over_refs, total_refs, unless_some, too_long, tree_fault, head_fault, row_fault, file_fault, count_fault, key_fault, link_fault, text_fault}
-use Rattle.addr_project_rows.specs.Firsts.{first_of}
+use Rattle.addr_project.specs.Model.{Project}
+use Rattle.addr_project.specs.Reading.{size_answer, length_of, asset_fault, bytes_of, path, tree_of, reply_of_file, reply_after, reply_of_tree, reply_of_bytes, reply_of_folder, unless_fault}
 use Rattle.addr_project.specs.Rows.{file_of, version_of, profile_of, profile_text, profile, rows_at}
-use Rattle.std.specs.Prelude.{codes}
+use Rattle.addr_project_rows.specs.Firsts.{first_of, first_from}
 
-abbrev pub Never : Option ProjectErr → Type 0
-Never o = o ≡ Some DepotFault → ⊥
+-- a fault that a test tells
+abbrev pub IsTold : ProjectErr → Type 0
+IsTold NoMemory = ⊥
+IsTold DepotFault = ⊥
+IsTold e = Unit {0}
 
-none : Never None
-none = λ e. cc
+abbrev pub Told : Option ProjectErr → Type 0
+Told o = (e : ProjectErr) → o ≡ Some e → IsTold e
 
-either : (a b : Option ProjectErr) → Never a → Never b → Never (option_or a b)
+none : Told None
+none = λ e is. absurd (cc)
+
+some : (fault : ProjectErr) → IsTold fault → Told (Some fault)
+some fault told = λ e is. (let same : fault ≡ e = cc in subst IsTold same told)
+
+either : (a b : Option ProjectErr) → Told a → Told b → Told (option_or a b)
 either None b first second = second
 either (Some x) b first second = first
 
-mapped : (fault : ℕ → ProjectErr) → ((n : ℕ) → fault n ≡ DepotFault → ⊥) → (o : Option ℕ) → Never (option_map fault o)
-mapped fault other None = λ e. cc
-mapped fault other (Some n) = λ e. (let same : fault n ≡ DepotFault = cc in other n same)
+mapped : (fault : ℕ → ProjectErr) → ((n : ℕ) → IsTold (fault n)) → (o : Option ℕ) → Told (option_map fault o)
+mapped fault told None = none
+mapped fault told (Some n) = some (fault n) (told n)
 
-tested : (b : Bool) (fault : ProjectErr) → (fault ≡ DepotFault → ⊥) → Never (cond b (Some fault) None)
-tested true fault other = λ e. (let same : fault ≡ DepotFault = cc in other same)
-tested false fault other = λ e. cc
+tested : (b : Bool) (fault : ProjectErr) → IsTold fault → Told (cond b (Some fault) None)
+tested true fault told = some fault told
+tested false fault told = none
 
-firsts : {A : Type 0} (answer : A → Option ProjectErr) → ((x : A) → Never (answer x)) → (xs : List A) → Never (first_of answer xs)
-firsts answer never [] = λ e. cc
-firsts answer never (x ∷ xs) = either (answer x) (first_of answer xs) (never x) (firsts answer never xs)
+firsts : {A : Type 0} (answer : A → Option ProjectErr) → ((x : A) → Told (answer x)) → (xs : List A) → Told (first_of answer xs)
+firsts answer told [] = none
+firsts answer told (x ∷ xs) = either (answer x) (first_of answer xs) (told x) (firsts answer told xs)
 
-long : (r : Result (List ℕ) ExpandErr) → Never (too_long r)
-long (Ok t) = λ e. cc
-long (Err expanding.BadVariable) = λ e. cc
-long (Err expanding.Cycle) = λ e. cc
-long (Err (expanding.TooLong n)) = λ e. cc
-long (Err expanding.NoMemory) = λ e. cc
+firsts_from : {A : Type 0} (answer : List A → A → Option ProjectErr) → ((before : List A) (x : A) → Told (answer before x)) → (before xs : List A) → Told (first_from answer before xs)
+unfolding first_from
+firsts_from answer told before [] = none
+firsts_from answer told before (x ∷ xs) = either (answer before x) (first_from answer (before ++ x ∷ []) xs) (told before x) (firsts_from answer told (before ++ x ∷ []) xs)
 
-field : (p : Part) (n : ℕ) → BadField p n ≡ DepotFault → ⊥
-field p n e = cc
+long : (r : Result (List ℕ) ExpandErr) → Told (too_long r)
+long (Ok t) = none
+long (Err expanding.BadVariable) = none
+long (Err expanding.Cycle) = none
+long (Err (expanding.TooLong n)) = some (OverLimit limit.Expanded n) tt
+long (Err expanding.NoMemory) = none
 
-limit_over : (which : Limit) (n : ℕ) → OverLimit which n ≡ DepotFault → ⊥
-limit_over which n e = cc
+over_told : (which : Limit) (most n : ℕ) → Told (over which most n)
+over_told which most n = tested (nat_lt most n) (OverLimit which n) tt
 
-guid_twice : (p : Part) (n : ℕ) → DuplicateGuid p n ≡ DepotFault → ⊥
-guid_twice p n e = cc
+unless_told : {A : Type 0} (p : Part) (value : Option A) → Told (unless_some p value)
+unless_told p value = tested (is_none value) (BadField p 0) tt
 
-group_twice : (n : ℕ) → DuplicateGroup n ≡ DepotFault → ⊥
-group_twice n e = cc
-
-group_reserved : (n : ℕ) → ReservedGroup n ≡ DepotFault → ⊥
-group_reserved n e = cc
-
-group_unknown : (n : ℕ) → UnknownGroup n ≡ DepotFault → ⊥
-group_unknown n e = cc
-
-ref_unknown : (p : Part) (n : ℕ) → UnknownRef p n ≡ DepotFault → ⊥
-ref_unknown p n e = cc
-
-variable_bad : (p : Part) (n : ℕ) → BadVariable p n ≡ DepotFault → ⊥
-variable_bad p n e = cc
-
-variable_cycle : (n : ℕ) → VariableCycle n ≡ DepotFault → ⊥
-variable_cycle n e = cc
-
-over_never : (which : Limit) (most n : ℕ) → Never (over which most n)
-over_never which most n = tested (nat_lt most n) (OverLimit which n) (limit_over which n)
-
-unless_never : {A : Type 0} (p : Part) (value : Option A) → Never (unless_some p value)
-unless_never p value = tested (is_none value) (BadField p 0) (field p 0)
-
-head_never : (tree : Members) → Never (head_fault tree)
+head_told : (tree : Members) → Told (head_fault tree)
 unfolding head_fault
-head_never tree =
-    either _ _ (unless_never part.Project (version_of tree)) (either _ _ (unless_never part.Project (profile_of tree)) (either _ _ (unless_never part.Project (rows_at (codes "variable") tree))
-    (either _ _ (unless_never part.Project (rows_at (codes "group") tree)) (either _ _ (unless_never part.Project (rows_at (codes "asset") tree)) (either _ _ (unless_never part.Project (rows_at (codes "entry") tree))
-    (either _ _ (unless_never part.Profile (profile_text (codes "local") (profile tree))) (either _ _ (unless_never part.Profile (profile_text (codes "remote") (profile tree))) none)))))))
+head_told tree =
+    either _ _ (unless_told part.Project (version_of tree)) (either _ _ (unless_told part.Project (profile_of tree)) (either _ _ (unless_told part.Project (rows_at (codes "variable") tree))
+    (either _ _ (unless_told part.Project (rows_at (codes "group") tree)) (either _ _ (unless_told part.Project (rows_at (codes "asset") tree)) (either _ _ (unless_told part.Project (rows_at (codes "entry") tree))
+    (either _ _ (unless_told part.Profile (profile_text (codes "local") (profile tree))) (either _ _ (unless_told part.Profile (profile_text (codes "remote") (profile tree))) none)))))))
 
-row_never : (tree : Members) → Never (row_fault tree)
+row_told : (tree : Members) → Told (row_fault tree)
 unfolding row_fault
-row_never tree =
-    either _ _ (mapped (BadField part.Variable) (field part.Variable) _) (either _ _ (mapped (BadField part.Group) (field part.Group) _)
-    (either _ _ (mapped (BadField part.Asset) (field part.Asset) _) (either _ _ (mapped (BadField part.Entry) (field part.Entry) _) none)))
+row_told tree =
+    either _ _ (mapped (BadField part.Variable) (λ n. tt) _) (either _ _ (mapped (BadField part.Group) (λ n. tt) _)
+    (either _ _ (mapped (BadField part.Asset) (λ n. tt) _) (either _ _ (mapped (BadField part.Entry) (λ n. tt) _) none)))
 
-count_never : (variables : List Var) (groups : List Group) (refs : List (List Guid)) (labels : List (List (List ℕ))) → Never (count_fault variables groups refs labels)
+count_told : (variables : List Var) (groups : List Group) (refs : List (List Guid)) (labels : List (List (List ℕ))) → Told (count_fault variables groups refs labels)
 unfolding count_fault
-count_never variables groups refs labels =
-    either _ _ (over_never limit.Variables 64 (length variables)) (either _ _ (over_never limit.Groups 1024 (length groups)) (either _ _ (over_never limit.Assets 65536 (length refs)) (either _ _ (over_never limit.Entries 65536 (length labels))
-    (either _ _ (firsts over_labels (λ ls. over_never limit.Labels 32 (length ls)) labels) (either _ _ (firsts over_refs (λ gs. over_never limit.Refs 1024 (length gs)) refs)
-    (either _ _ (over_never limit.AllRefs 1000000 (total_refs refs)) none))))))
+count_told variables groups refs labels =
+    either _ _ (over_told limit.Variables 64 (length variables)) (either _ _ (over_told limit.Groups 1024 (length groups)) (either _ _ (over_told limit.Assets 65536 (length refs)) (either _ _ (over_told limit.Entries 65536 (length labels))
+    (either _ _ (firsts over_labels (λ ls. over_told limit.Labels 32 (length ls)) labels) (either _ _ (firsts over_refs (λ gs. over_told limit.Refs 1024 (length gs)) refs)
+    (either _ _ (over_told limit.AllRefs 1000000 (total_refs refs)) none))))))
 
-key_never : (groups : List Group) (assets : List AssetRow) (entries : List EntryRow) → Never (key_fault groups assets entries)
+key_told : (groups : List Group) (assets : List AssetRow) (entries : List EntryRow) → Told (key_fault groups assets entries)
 unfolding key_fault
-key_never groups assets entries =
-    either _ _ (mapped (DuplicateGuid part.Asset) (guid_twice part.Asset) _) (either _ _ (mapped (DuplicateGuid part.Entry) (guid_twice part.Entry) _)
-    (either _ _ (mapped DuplicateGroup group_twice _) (either _ _ (mapped ReservedGroup group_reserved _) none)))
+key_told groups assets entries =
+    either _ _ (mapped (DuplicateGuid part.Asset) (λ n. tt) _) (either _ _ (mapped (DuplicateGuid part.Entry) (λ n. tt) _)
+    (either _ _ (mapped DuplicateGroup (λ n. tt) _) (either _ _ (mapped ReservedGroup (λ n. tt) _) none)))
 
-link_never : (names guids : List (List ℕ)) (assets : List AssetRow) (entries : List EntryRow) → Never (link_fault names guids assets entries)
+link_told : (names guids : List (List ℕ)) (assets : List AssetRow) (entries : List EntryRow) → Told (link_fault names guids assets entries)
 unfolding link_fault
-link_never names guids assets entries =
-    either _ _ (mapped UnknownGroup group_unknown _) (either _ _ (mapped (UnknownRef part.Asset) (ref_unknown part.Asset) _)
-    (either _ _ (mapped (UnknownRef part.Entry) (ref_unknown part.Entry) _) none))
+link_told names guids assets entries =
+    either _ _ (mapped UnknownGroup (λ n. tt) _) (either _ _ (mapped (UnknownRef part.Asset) (λ n. tt) _)
+    (either _ _ (mapped (UnknownRef part.Entry) (λ n. tt) _) none))
 
-text_never : (local remote : Result (List ℕ) ExpandErr) (values : List (Result (List ℕ) ExpandErr)) → Never (text_fault local remote values)
+text_told : (local remote : Result (List ℕ) ExpandErr) (values : List (Result (List ℕ) ExpandErr)) → Told (text_fault local remote values)
 unfolding text_fault
-text_never local remote values =
-    either _ _ (tested _ _ (variable_bad part.Profile 0)) (either _ _ (mapped (BadVariable part.Variable) (variable_bad part.Variable) _)
-    (either _ _ (mapped VariableCycle variable_cycle _)
+text_told local remote values =
+    either _ _ (tested _ (BadVariable part.Profile 0) tt) (either _ _ (mapped (BadVariable part.Variable) (λ n. tt) _)
+    (either _ _ (mapped VariableCycle (λ n. tt) _)
     (either _ _ (long local) (either _ _ (long remote) (either _ _ (firsts too_long long values) none)))))
 
-file_never : (f : ProjectFile) → Never (file_fault f)
+file_told : (f : ProjectFile) → Told (file_fault f)
 unfolding file_fault
-file_never f =
-    either _ _ (count_never f.variables f.groups _ _) (either _ _ (either _ _ (key_never f.groups f.assets f.entries) (link_never _ _ f.assets f.entries)) (either _ _ (text_never _ _ _) none))
+file_told f =
+    either _ _ (count_told f.variables f.groups _ _) (either _ _ (either _ _ (key_told f.groups f.assets f.entries) (link_told _ _ f.assets f.entries)) (either _ _ (text_told _ _ _) none))
 
-pub tree_never : (tree : Members) → Never (tree_fault tree)
+tree_told : (tree : Members) → Told (tree_fault tree)
 unfolding tree_fault
-tree_never tree = either _ _ (either _ _ (head_never tree) (row_never tree)) (file_never (file_of tree))
+tree_told tree = either _ _ (either _ _ (head_told tree) (row_told tree)) (file_told (file_of tree))
+
+pub tree_never : (tree : Members) → tree_fault tree ≡ Some DepotFault → ⊥
+tree_never tree is = tree_told tree DepotFault is
+
+size_told : (before : List ℕ) (n : ℕ) → Told (size_answer before n)
+size_told before n = either _ _ (over_told limit.AssetBytes 67108864 n) (over_told limit.AllBytes 268435456 (sum before + n))
+
+asset_told : (contents : List (Option (List ℕ))) → Told (asset_fault contents)
+unfolding asset_fault
+asset_told contents = either _ _ (mapped MissingFile (λ n. tt) _) (firsts_from size_answer size_told [] (map length_of contents))
+
+-- an answer's fault is one that a test tells
+abbrev pub AnswerTold : Result Project ProjectErr → Type 0
+AnswerTold (Ok p) = Unit {0}
+AnswerTold (Err e) = IsTold e
+
+unless_fault_told : (o : Option ProjectErr) (p : Project) → Told o → AnswerTold (unless_fault o p)
+unless_fault_told None p told = tt
+unless_fault_told (Some e) p told = told e refl
+
+after_told : (o : Option ProjectErr) (reply : Result Project ProjectErr) → Told o → AnswerTold reply → AnswerTold (reply_after o reply)
+after_told None reply told rest = rest
+after_told (Some e) reply told rest = told e refl
+
+file_reply_told : (files : List MemFile) (folder : List ℕ) (f : ProjectFile) → AnswerTold (reply_of_file files folder f)
+unfolding reply_of_file
+file_reply_told files folder f = unless_fault_told _ _ (asset_told (map (bytes_of files folder) f.assets))
+
+tree_reply_told : (files : List MemFile) (folder : List ℕ) (o : Option Members) → AnswerTold (reply_of_tree files folder o)
+tree_reply_told files folder None = tt
+tree_reply_told files folder (Some tree) = after_told _ _ (tree_told tree) (file_reply_told files folder (file_of tree))
+
+bytes_reply_told : (files : List MemFile) (folder : List ℕ) (o : Option (List ℕ)) → AnswerTold (reply_of_bytes files folder o)
+bytes_reply_told files folder None = tt
+bytes_reply_told files folder (Some bytes) = tree_reply_told files folder (tree_of bytes)
+
+folder_told : (files : List MemFile) (folder : List ℕ) → AnswerTold (reply_of_folder files folder)
+unfolding reply_of_folder
+folder_told files folder = bytes_reply_told files folder (file_at (path folder (codes "project.toml")) files)
+
+pub folder_never : (files : List MemFile) (folder : List ℕ) → (reply_of_folder files folder ≡ Err NoMemory → ⊥) × (reply_of_folder files folder ≡ Err DepotFault → ⊥)
+folder_never files folder =
+    let told = folder_told files folder in
+    (λ is. subst AnswerTold is told, λ is. subst AnswerTold is told)

@@ -1,5 +1,5 @@
 // The first text of a project file that can't be expanded, in the order of the tests.
-ghost use Rattle.std.specs.Prelude.{◌≡◌, map, IfOk};
+ghost use Rattle.std.specs.Prelude.{◌≡◌, ◌<◌, ◌^◌, length, map, IfOk, IfErr};
 ghost use Rattle.addr_expansion.specs.Extents.{answer_of};
 ghost use Rattle.addr_project.specs.Faults.{too_long, text_fault};
 ghost use Rattle.addr_project_rows.specs.Firsts.{first_of};
@@ -13,7 +13,8 @@ use addr_project_rows::row_number;
 /// The first text that can't be expanded.
 #[tactic(auto, unfolding(crate::specs::Faults::text_fault))]
 pub fn text_fault(replies: &Replies) -> Result<Option<ProjectErr>, NoMemory>
-    ensures { IfOk result (λ fault. fault ≡ text_fault (answer_of replies.now.local) (answer_of replies.now.remote) (map answer_of replies.now.values.items)) }
+    ensures ok { IfOk result (λ fault. fault ≡ text_fault (answer_of replies.now.local) (answer_of replies.now.remote) (map answer_of replies.now.values.items)) }
+    ensures err { IfErr result (λ e. 2 ^ 32 < length replies.now.values.items) }
 {
     if is_bad(&replies.local) || is_bad(&replies.remote) {
         return Ok(Some(ProjectErr::BadVariable {

@@ -1,5 +1,5 @@
 // Rows of tables and items of arrays, read one by one up to the first that stands for nothing.
-ghost use Rattle.std.specs.Prelude.{◌≡◌, List, ℕ, Option, Some, [], map, IfOk};
+ghost use Rattle.std.specs.Prelude.{◌≡◌, ◌≤◌, ◌^◌, List, ℕ, Option, Some, [], map, IfOk, IfErr};
 ghost use Rattle.std.specs.Option.{option_map, option_copied};
 ghost use Rattle.toml.specs.Data.{Data};
 ghost use Rattle.toml.specs.View.{view, table_view};
@@ -55,7 +55,8 @@ pub fn rows_read<T: Row + Drop>(alloc: Global, rows: &[Value]) -> Result<Rows<T>
 
 /// A row's number; a place past the numbers is more than memory is promised to hold.
 pub fn row_number(place: usize) -> Result<u32, NoMemory>
-    ensures { IfOk result (λ number. number ≡ place) }
+    ensures ok { IfOk result (λ number. number ≡ place) }
+    ensures err { IfErr result (λ e. 2 ^ 32 ≤ place) }
 {
     match u32::try_from(place) {
         Ok(number) => Ok(number),

@@ -9,3 +9,4 @@ pub mod WholeLemmas
 pub mod WrittenLemmas
 pub mod BackLemmas
 pub mod DecodedLemmas
+pub mod SizeLemmas

@@ -1,19 +1,20 @@
--- The list of what a search found: in ascending order it is the list of the set, and it has as many elements.
-use Rattle.std.proofs.Common.{◌≡◌, ℕ, ◌+◌, ◌<◌, ◌⊎◌, inl, inr, Bool, true, false, nat_eq, List, [], ◌∷◌, length, get_or, refl, sym, ◌∙◌, arith}
-use Rattle.std.proofs.lemmas.Bool.{false≢true, ne_eqb, eq-eqb, or_left, or_right}
+-- The list of what a search found: in ascending order it is the list of the set, it has as many elements, and as many below a bound.
+use Rattle.std.proofs.Common.{◌≡◌, ℕ, ◌+◌, ◌<◌, ◌⊎◌, inl, inr, Bool, true, false, nat_eq, nat_lt, List, [], ◌∷◌, length, get_or, refl, sym, ◌∙◌, arith}
+use Rattle.std.proofs.lemmas.Bool.{false≢true, ne_eqb, eq-eqb, or_left, or_right, ltb-true, lt-ltb}
 use Rattle.std.proofs.lemmas.Cmp.{nat_eq_equiv}
+use Rattle.std.proofs.lemmas.List.Sums.{length-filter}
 use Rattle.std.proofs.lemmas.List.FromFn.{get_or-range_with_len, length-range_with_len}
 use Rattle.std.proofs.lemmas.List.Sorted.{IsNonDecreasingBy-from_sort, IsPermutation-sym, Contains-permutation}
 use Rattle.std.proofs.lemmas.List.Kept.{IsStrictlySortedBy-filter}
 use Rattle.std.proofs.lemmas.Map.Keys.{IsDistinct-IsPermutation, IsStrictlyIncreasing-from_distinct, sorted_from_strictly_increasing, IsDistinct-from_apart, below_from_sorted}
 use Rattle.std.proofs.lemmas.Map.Made.{length-from_same_keys}
-use Rattle.std.specs.List.{Contains, IsDistinct, list_any, filter, range_with_len}
+use Rattle.std.specs.List.{AllByRecursion, Contains, IsDistinct, count_by, list_any, filter, range_with_len}
 use Rattle.std.specs.List.Sorted.{IsPermutation, IsSorted, IsStrictlySortedBy}
 use Rattle.std.specs.Ordering.{nat_cmp}
 use Rattle.addr_walks.specs.Marks.{Tracks}
 use Rattle.addr_walks.specs.Rows.{Holds, IsSizeOf}
 use Rattle.addr_walks.specs.Walks.{IsListOf}
-use Rattle.addr_walks.proofs.Lists.{Contains-none, Contains-cases, Contains-filter, filter-Contains}
+use Rattle.addr_walks.proofs.Lists.{Contains-none, Contains-cases, Contains-filter, filter-Contains, IsListOf-filter, IsListOf-same}
 use Rattle.addr_walks.proofs.MarkLemmas.{any-Contains, listed-below}
 
 -- ---- the sorted list
@@ -89,3 +90,46 @@ listed-size set marks queue tracks holds = (listed, list, length-from_same_keys 
       within = λ c here. (holds c).0 (within c here);
       all = λ c is. all c ((holds c).1 is);
     }
+
+-- ---- how many of it are below a bound
+
+-- what holds of each of a list holds of each that is left, and what is left of a list without a repeat has none
+all-left : (P : ℕ → Type 0) (p : ℕ → Bool) (xs : List ℕ) → AllByRecursion P xs → AllByRecursion P (filter p xs)
+all-left P p [] all = all
+all-left P p (x ∷ xs) all = by_test (p x) refl all.0 (all-left P p xs all.1)
+  where
+    by_test : (t : Bool) → p x ≡ t → P x → AllByRecursion P (filter p xs) → AllByRecursion P (filter p (x ∷ xs))
+    by_test true is here rest = rw is (here, rest)
+    by_test false is here rest = rw is rest
+
+kept-step : (p : ℕ → Bool) (x : ℕ) (xs : List ℕ) (t : Bool) → p x ≡ t → AllByRecursion (λ y. nat_eq x y ≡ false) xs → IsDistinct nat_eq (filter p xs) → IsDistinct nat_eq (filter p (x ∷ xs))
+unfolding IsDistinct
+kept-step p x xs true is apart rest = rw is (all-left (λ y. nat_eq x y ≡ false) p xs apart, rest)
+kept-step p x xs false is apart rest = rw is rest
+
+distinct-filter : (p : ℕ → Bool) (xs : List ℕ) → IsDistinct nat_eq xs → IsDistinct nat_eq (filter p xs)
+unfolding IsDistinct
+distinct-filter p [] once = once
+distinct-filter p (x ∷ xs) once = kept-step p x xs (p x) refl once.0 (distinct-filter p xs once.1)
+
+pub listed-below-size : (set : ℕ → Type 0) (bound : ℕ) (marks : List Bool) (queue : List ℕ) → Tracks marks queue → Holds queue set → IsSizeOf (λ c. (c < bound) × set c) (count_by (λ c. nat_lt c bound) queue)
+listed-below-size set bound marks queue tracks holds = (
+  filter small listed,
+  IsListOf-same (λ c. (small c ≡ true) × set c) (λ c. (c < bound) × set c) (λ c (is, led). (ltb-true c bound is, led)) (λ c (below, led). (lt-ltb c bound below, led)) (filter small listed) (IsListOf-filter set small listed list),
+  sym (length-filter small queue) ∙ length-from_same_keys nat_eq_equiv (filter small queue) (filter small listed) (distinct-filter small queue tracks.once) (distinct-filter small listed (distinct-sorted listed list.rising)) (same-answers (filter small queue) (filter small listed) to from),
+)
+  where
+    small : ℕ → Bool
+    small c = nat_lt c bound
+
+    listed : List ℕ
+    listed = (listed-size set marks queue tracks holds).0
+
+    list : IsListOf nat_cmp set listed
+    list = (listed-size set marks queue tracks holds).1
+
+    to : (c : ℕ) → Contains (filter small queue) c → Contains (filter small listed) c
+    to c here = let (there, is) = filter-Contains small queue c here in Contains-filter small listed c (list.all c ((holds c).0 there)) is
+
+    from : (c : ℕ) → Contains (filter small listed) c → Contains (filter small queue) c
+    from c here = let (there, is) = filter-Contains small listed c here in Contains-filter small queue c ((holds c).1 (list.within c there)) is

@@ -1,6 +1,6 @@
 -- Dependency lists: what a step leads to from each number, the number itself first.
-use Rattle.std.specs.Prelude.{ℕ, ◌≡◌, ◌≢◌, ◌==◌, Bool, not, List, ◌∷◌, length, map, Some}
-use Rattle.std.specs.List.{slice_get, sum}
+use Rattle.std.specs.Prelude.{ℕ, ◌≡◌, ◌≢◌, ◌==◌, Bool, not, List, ◌∷◌, length, Some}
+use Rattle.std.specs.List.{slice_get}
 use Rattle.std.specs.Ordering.{nat_cmp}
 use Rattle.addr_walks.specs.Once.{AreOnce}
 use Rattle.addr_walks.specs.Places.{EachAt}
@@ -15,10 +15,6 @@ IsDeps step b deps = (rest : List ℕ) × (deps ≡ b ∷ rest) × IsListOf nat_
 pub record AreDeps (rows all : List (List ℕ)) : Type 0 where
   pub each_row : length all ≡ length rows
   pub deps : EachAt (IsDeps (Edge rows)) all
-
--- the lengths of all dependency lists together
-abbrev pub IsDepsTotal : List (List ℕ) → ℕ → Type 0
-IsDepsTotal rows n = (all : List (List ℕ)) × AreDeps rows all × (n ≡ sum (map length all))
 
 -- a dependency list begins with the number itself, and has no repeat
 abbrev pub BeginsOnce : ℕ → List ℕ → Type 0

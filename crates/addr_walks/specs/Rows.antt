@@ -12,6 +12,10 @@ Edge rows b c = (row : List ℕ) × (slice_get rows b ≡ Some row) × Contains 
 abbrev pub LedTo : List (List ℕ) → List ℕ → ℕ → Type 0
 LedTo rows seeds c = (s : ℕ) × Contains seeds s × Leads (Edge rows) s c
 
+-- it does, and the number is below a bound
+abbrev pub LedBelow : List (List ℕ) → List ℕ → ℕ → ℕ → Type 0
+LedBelow rows seeds bound c = (c < bound) × LedTo rows seeds c
+
 -- each number in a row is below n
 pub record AreBelow (rows : List (List ℕ)) (n : ℕ) : Type 0 where
   pub each : (b c : ℕ) → Edge rows b c → c < n

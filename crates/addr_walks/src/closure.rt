@@ -1,7 +1,7 @@
 // Dependency lists of rows of numbers: for each row one search from it.
 ghost use Rattle.std.specs.Prelude.{◌≡◌, ◌↔◌, ℕ, List, ◌∷◌, ◌<◌, ◌^◌, nat_lt, length, IfOk, IsTrue};
 ghost use Rattle.std.specs.List.{filter, list_all};
-ghost use Rattle.addr_walks.specs.Closure.{IsDeps, AreDeps, IsDepsTotal, BeginsOnce, is_other};
+ghost use Rattle.addr_walks.specs.Closure.{IsDeps, AreDeps, BeginsOnce, is_other};
 ghost use Rattle.addr_walks.specs.Rows.{AreBelow, Edge};
 
 use crate::searching::Search;
@@ -76,21 +76,6 @@ fn is_other(first: u32, c: u32) -> bool
     ensures { result ≡ is_other first c }
 {
     c != first
-}
-
-/// The lengths of all dependency lists together; no list is made.
-pub fn closed_size(alloc: Global, direct: &[Items<u32>]) -> Result<u64, NoMemory>
-    requires few { length direct.now < 2 ^ 32 }
-    requires below { AreBelow direct.now (length direct.now) }
-    ensures { IfOk result (IsDepsTotal direct.now) }
-{
-    let mut search = Search::new(alloc, direct.len())?;
-    let mut total = 0;
-    for b in 0..direct.len() {
-        let count = search.count(direct, &[b as u32])?;
-        total += count as u64;
-    }
-    Ok(total)
 }
 
 /// A dependency list begins with the row's own number and has no repeat. Nothing runs.

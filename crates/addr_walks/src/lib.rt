@@ -12,5 +12,5 @@ mod searching;
 #[cfg(test)]
 mod tests;
 
-pub use closure::{are_below, closed, closed_size, deps_begin_once};
+pub use closure::{are_below, closed, deps_begin_once};
 pub use searching::Search;

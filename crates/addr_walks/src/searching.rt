@@ -1,8 +1,8 @@
 // One search after another over the same numbers, each linear in what it finds and in the rows of that.
-ghost use Rattle.std.specs.Prelude.{◌≡◌, ℕ, ◌<◌, length, IfOk};
-ghost use Rattle.std.specs.List.{All};
+ghost use Rattle.std.specs.Prelude.{◌≡◌, ℕ, ◌<◌, nat_lt, length, IfOk};
+ghost use Rattle.std.specs.List.{All, count_by};
 ghost use Rattle.std.specs.Ordering.{nat_cmp};
-ghost use Rattle.addr_walks.specs.Rows.{LedTo, AreBelow, IsSizeOf};
+ghost use Rattle.addr_walks.specs.Rows.{LedTo, LedBelow, AreBelow, IsSizeOf};
 ghost use Rattle.addr_walks.specs.Walks.{IsListOf};
 
 use crate::marking::Marked;
@@ -66,4 +66,27 @@ impl Search {
         self.marked.spread(rows, seeds)?;
         Ok(self.marked.queue.len())
     }
+
+    /// How many of the numbers below a bound walks lead to from the seeds; no list of them is made.
+    pub fn count_below(
+        &mut self,
+        rows: &[Items<u32>],
+        seeds: &[u32],
+        bound: usize,
+    ) -> Result<usize, NoMemory>
+        requires size { self.old ≡ length rows.now }
+        requires below { AreBelow rows.now (length rows.now) }
+        requires seeds { All (λ s. s < length rows.now) seeds.now }
+        ensures size { self.new ≡ self.old }
+        ensures count { IfOk result (IsSizeOf (LedBelow rows.now seeds.now bound)) }
+    {
+        self.marked.spread(rows, seeds)?;
+        Ok(count_below(self.marked.queue.as_slice(), bound))
+    }
+}
+
+fn count_below(numbers: &[u32], bound: usize) -> usize
+    ensures { result ≡ count_by (λ c. nat_lt c bound) numbers.now }
+{
+    numbers.iter().filter(|c| (**c as usize) < bound).count()
 }

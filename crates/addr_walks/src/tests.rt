@@ -1,5 +1,5 @@
 // What no clause says: that each call can succeed, on rows whose walks can be followed by hand.
-use crate::{Search, are_below, closed, closed_size};
+use crate::{Search, are_below, closed};
 use addr_base::{Items, NoMemory};
 use std::alloc::Global;
 use std::test::Fail;
@@ -30,7 +30,6 @@ fn follows_every_walk(rt: HostRuntime) -> Result<(), Fail> {
     ]) {
         assert!(rt; deps.as_slice() == want);
     }
-    assert_eq!(rt; closed_size(rt.alloc(), rows)?, 14);
     Ok(())
 }
 
@@ -42,6 +41,7 @@ fn searches_one_after_another(rt: HostRuntime) -> Result<(), Fail> {
     assert!(rt; are_below(rows));
     let mut search = Search::new(rt.alloc(), rows.len())?;
     assert_eq!(rt; search.count(rows, &[5, 2])?, 6);
+    assert_eq!(rt; search.count_below(rows, &[5, 2], 4)?, 4);
     let found = search.reached(rt.alloc(), rows, &[2])?;
     assert!(rt; found.as_slice() == [2, 4].as_slice());
     Ok(())

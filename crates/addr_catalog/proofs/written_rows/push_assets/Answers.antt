@@ -1,4 +1,4 @@
-use Rattle.std.proofs.Common.{◌∙◌, ◌≡◌, ◌+◌, ◌<◌, get_or, length, ap, arith}
+use Rattle.std.proofs.Common.{◌∙◌, ◌+◌, ◌<◌, get_or, length, ap, arith}
 use Rattle.addr_catalog.specs.Written.{asset_entry}
 use Rattle.addr_catalog.proofs.RowLemmas.{few_rows, few_kinds, numbered_put}
 use Rattle.addr_catalog.proofs.written_rows.push_assets.Goals as goal

@@ -1,6 +1,4 @@
-use Rattle.std.proofs.Common.{◌∙◌, List, ℕ, length, subst, sym, ap, arith}
-use Rattle.std.specs.List.{AllByRecursion}
-use Rattle.addr_catalog.specs.Inverted.{AreNumbersBelow}
+use Rattle.std.proofs.Common.{◌∙◌, length, ap, arith}
 use Rattle.addr_catalog.specs.Written.{table_texts}
 use Rattle.addr_catalog.proofs.RowLemmas.{rows_within, count_rows, few_rows, count_texts}
 use Rattle.addr_catalog.proofs.written_rows.table_buckets.Goals as goal

@@ -1,7 +1,7 @@
-use Rattle.std.proofs.Common.{ℕ, ◌∙◌, ◌≡◌, ◌+◌, ◌<◌, ◌^◌, length, map, to_z, refl, arith}
+use Rattle.std.proofs.Common.{◌∙◌, ◌+◌, ◌<◌, ◌^◌, map, to_z, refl, arith}
 use mir.Syntax.{w32}
 use Rattle.addr_keys.specs.declared.key.Key.TheVariants.{Text}
-use Rattle.addr_catalog.specs.Written.{table_texts, dep_lists}
+use Rattle.addr_catalog.specs.Written.{dep_lists}
 use Rattle.addr_catalog.proofs.PlanLemmas.{few_keys, number_put, all_keys}
 use Rattle.addr_catalog.proofs.RowLemmas.{count_texts}
 use Rattle.addr_catalog.proofs.written_rows.table_keys.Goals as goal

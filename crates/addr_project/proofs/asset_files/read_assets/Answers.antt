@@ -47,7 +47,7 @@ returns-in-None-clause-told g c =
     let told = if-some-at _ (g.D.Depot.files c.args.depot.now) files is c.loop-i.invariant.told in
     let content = if-some-at _ (g.D.Depot.files c.loop-i.depot) files (c.loop-i.invariant.files ∙ is) c.in_ok-bytes.ensures.content in
     let none : bytes_of files folder row ≡ None = ap (λ n. file_at n files) (sym name_is) ∙ sym content ∙ ap (option_map (λ v. v.items)) c.in-None.is in
-    inr (inr (told-missing files folder rows c.loop-i.i row c.loop-i-test.true at c.loop-i.loaded told none ∙ ap (λ n. Some (MissingFile n)) (sym c.in_ok-row_number-in-None.ensures)))))
+    inr (inr (told-missing files folder rows c.loop-i.i row c.loop-i-test.true at c.loop-i.loaded told none ∙ ap (λ n. Some (MissingFile n)) (sym c.in_ok-row_number-in-None.ensures.ok)))))
 
 pub returns-in-Some-over-clause-told : goal.returns-in-Some-over-clause-told
 returns-in-Some-over-clause-told g c =

@@ -27,7 +27,7 @@ loop-i-preserved c =
     let new : is_among (take i keys) (get_or keys i key) ≡ false = ap (is_among (take i keys)) at ∙ among_place (take i keys) key ∙ ap is_some (sym (c.loop-i.invariant.holds key) ∙ absent) in
     record {
       first = first_where-pass is_among keys i key small c.loop-i.invariant.first new;
-      holds = places-more keys i c.in_ok-row.row key c.loop-i.places c.insert.new.self small c.in_ok-row.ensures at c.loop-i.invariant.holds absent c.in_ok-insert.ensures.updates;
+      holds = places-more keys i c.in_ok-row.row key c.loop-i.places c.insert.new.self small c.in_ok-row.ensures.ok at c.loop-i.invariant.holds absent c.in_ok-insert.ensures.updates;
     }
 
 pub returns-then-is_some : goal.returns-then-is_some
@@ -42,4 +42,4 @@ returns-then-is_some c =
     ap (is_among (take i keys)) at ∙ among_place (take i keys) key ∙ ap is_some (sym (c.loop-i.invariant.holds key) ∙ sym c.in_ok-insert.ensures.old) ∙ sym c.is_some.ensures ∙ c.if-is_some.true in
     ap (λ ks. first_repeat (keys_in ks)) (sym c.deref-key-items.ensures.value)
     ∙ first_where-found is_among keys i key small c.loop-i.invariant.first repeated
-    ∙ ap Some (sym c.in_ok-row.ensures)
+    ∙ ap Some (sym c.in_ok-row.ensures.ok)

@@ -30,7 +30,7 @@ returns-in-None g c =
     let at = view-at vs c.loop-i.i v c.loop-i-test.true c.index-rows-i.is in
     let bad : g.T.Row.row_of (view v) ≡ None = sym c.in_ok-item.ensures ∙ c.in-None.is in
     let first = rows-bad g.T.Row.row_of (map view vs) c.loop-i.i (view v) small at bad c.loop-i.invariant.none in
-    let number = c.in_ok-bad-in-None.ensures in
+    let number = c.in_ok-bad-in-None.ensures.ok in
     record {
       bad_is = ap Some number ∙ sym first;
       bad_at = rw number (small, λ d. ap g.T.Row.row_of (get_or_default (map view vs) c.loop-i.i d (view v) small ∙ at) ∙ bad);
