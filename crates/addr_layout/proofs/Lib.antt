@@ -11,3 +11,4 @@ pub mod CountLemmas
 pub mod SharedLemmas
 pub mod LimitLemmas
 pub mod LinkLemmas
+pub mod FollowLemmas

@@ -1,14 +1,12 @@
--- Links lead from a bundle to exactly the bundles that it depends on, and those are as many as the search finds below their number.
-use Rattle.std.proofs.Common.{◌≡◌, ◌≢◌, ℕ, zero, suc, ◌+◌, ◌<◌, ◌≤◌, ◌⊎◌, inl, inr, Bool, true, false, ◌==◌, not, nat_lt, List, [], ◌∷◌, ◌++◌, length, get_or, map, Option, Some, None, refl, sym, ap, subst, ◌∙◌, arith}
-use Rattle.std.proofs.lemmas.Bool.{cases_eq, cases_lt, false≢true, lt-ltb, ltb-true, ne_eqb, not_from_false}
+-- Links lead from a bundle to exactly the bundles that it depends on; a dependency list is as long as what its steps lead to is many.
+use Rattle.std.proofs.Common.{◌≡◌, ◌≢◌, ℕ, zero, suc, ◌+◌, ◌<◌, ◌≤◌, ◌⊎◌, inl, inr, Bool, true, false, ◌==◌, not, List, [], ◌∷◌, ◌++◌, length, get_or, map, Option, Some, None, refl, sym, ap, subst, ◌∙◌, arith}
+use Rattle.std.proofs.lemmas.Bool.{cases_eq, cases_lt, false≢true, ne_eqb, not_from_false}
 use Rattle.std.proofs.lemmas.Cmp.{nat_eq_equiv}
 use Rattle.std.proofs.lemmas.List.{get_or_past, length-append, length-map}
 use Rattle.std.proofs.lemmas.List.Elements.{Contains-append_left, Contains-append_right, Contains-append_cases, Contains-get_or}
-use Rattle.std.proofs.lemmas.List.Sums.{length-filter}
 use Rattle.std.proofs.lemmas.Map.Made.{length-from_same_keys}
-use Rattle.std.proofs.lemmas.Map.Views.{length-le_from_below}
 use Rattle.std.proofs.lemmas.Option.{get_or_from_slice_get, slice_get-get_or, slice_get_within}
-use Rattle.std.specs.List.{All, Contains, count_by, filter, flat_map, slice_get}
+use Rattle.std.specs.List.{All, Contains, filter, flat_map, slice_get}
 use Rattle.std.specs.Ordering.{nat_cmp}
 use Rattle.addr_base.specs.declared.ids.Guid.{Guid}
 use Rattle.addr_pack.specs.declared.bundles.Plan.{Plan}
@@ -18,7 +16,7 @@ use Rattle.addr_project.specs.Model.{Project}
 use Rattle.addr_project.specs.Reach.{Refers}
 use Rattle.addr_project.proofs.OnceLemmas.{to_map, from_map}
 use Rattle.addr_walks.specs.Closure.{IsDeps, is_other}
-use Rattle.addr_walks.specs.Rows.{AreBelow, Edge, IsSizeOf, LedTo}
+use Rattle.addr_walks.specs.Rows.{AreBelow, Edge, IsSizeOf}
 use Rattle.addr_walks.specs.Walks.{IsListOf, Leads}
 use Rattle.addr_walks.specs.Walks.Leads.{stays, goes}
 use Rattle.addr_walks.proofs.ClosureLemmas.{deps-distinct}
@@ -147,7 +145,7 @@ differs-other : (b c : ℕ) → b ≢ c → is_other b c ≡ true
 differs-other b c apart = not_from_false (c == b) (ne_eqb c b (λ same. apart (sym same)))
 
 -- a dependency list is as long as what the steps lead to is many
-size-deps : (step : ℕ → ℕ → Type 0) (b n : ℕ) → IsSizeOf (Leads step b) n → (deps : List ℕ) × IsDeps step b deps × (n ≡ length deps)
+pub size-deps : (step : ℕ → ℕ → Type 0) (b n : ℕ) → IsSizeOf (Leads step b) n → (deps : List ℕ) × IsDeps step b deps × (n ≡ length deps)
 size-deps step b n (found, list, is) = (
   b ∷ filter (is_other b) found,
   deps,
@@ -180,7 +178,7 @@ size-deps step b n (found, list, is) = (
 
 module _ (p : Project) (plan : Plan) (graph : Graph) (kept : IsKept p) (shared : IsShared p plan) (is : IsGraph p plan graph) where
   -- the bundle of an entry is one of the placement's
-  bundle-below : (b : ℕ) (g : Guid) → HasEntry p plan b g → b < length graph.seeds
+  pub bundle-below : (b : ℕ) (g : Guid) → HasEntry p plan b g → b < length graph.seeds
   bundle-below b g (x, (bundle, at, here), entry) =
       let within = slice_get_within plan.bundles b bundle at in
       let same = is.as_many in
@@ -225,7 +223,7 @@ module _ (p : Project) (plan : Plan) (graph : Graph) (kept : IsKept p) (shared :
       let (s, there, edge) = (refs-steps p plan graph kept is).down r x y ranked refers in
       subst (Leads (Edge (links_of graph)) b) (to-entry s c y (get_or graph.bundles s None) (bundle-at p plan graph is s y there) other) (leads s edge)
 
-  needs-linked : (b c : ℕ) → b < length graph.seeds → Leads (Needs p plan) b c → IsLinked (links_of graph) (length graph.seeds) b c
+  pub needs-linked : (b c : ℕ) → b < length graph.seeds → Leads (Needs p plan) b c → IsLinked (links_of graph) (length graph.seeds) b c
   needs-linked b c inside walk =
       let (below, led) = kept-along (Needs p plan) (λ d. (d < length graph.seeds) × Leads (Edge (links_of graph)) b d) step b c (inside, stays) walk in
       (below, (b, Contains-here b [], led))
@@ -269,7 +267,7 @@ module _ (p : Project) (plan : Plan) (graph : Graph) (kept : IsKept p) (shared :
       let (h, there, refers) = (refs-steps p plan graph kept is).up r s g ranked edge in
       from-member b s w c g h (get_or graph.bundles s None) walk member refers there (bundle-at p plan graph is s h there) leads
 
-  linked-needs : (b c : ℕ) → b < length graph.seeds → IsLinked (links_of graph) (length graph.seeds) b c → Leads (Needs p plan) b c
+  pub linked-needs : (b c : ℕ) → b < length graph.seeds → IsLinked (links_of graph) (length graph.seeds) b c → Leads (Needs p plan) b c
   linked-needs b c inside (below, (s, here, walk)) = by_end (kept-along (Edge (links_of graph)) (Comes b) (comes-on b) s c (by_start (Contains-cases b [] s here)) walk)
     where
       by_start : (b ≡ s) ⊎ Contains [] s → Comes b s
@@ -300,25 +298,3 @@ module _ (p : Project) (plan : Plan) (graph : Graph) (kept : IsKept p) (shared :
 
   pub are-below : AreBelow (links_of graph) (length (links_of graph))
   are-below = record { each = λ v w edge. (let below = links-below v w edge in let many = links-many graph in let refs = is.refs.as_many in omega arith) }
-
-  -- ---- counts
-
-  -- as many dependencies as a search counts, and not more than there are bundles
-  pub deps-counted : (links : List (List ℕ)) (bundles b n : ℕ) → links ≡ links_of graph → bundles ≡ length plan.bundles → b < bundles → IsSizeOf (IsLinked links bundles b) n
-      → (n ≤ length plan.bundles) × ((deps : List ℕ) × IsDeps (Needs p plan) b deps × (n ≡ length deps))
-  deps-counted links bundles b n same many within (found, list, size) = (few, size-deps (Needs p plan) b n (found, needed, size))
-    where
-      inside : b < length graph.seeds
-      inside = let seeds = is.as_many in omega arith
-
-      all : bundles ≡ length graph.seeds
-      all = many ∙ sym is.as_many
-
-      few : n ≤ length plan.bundles
-      few = let below = length-le_from_below bundles found list.rising (λ k d here. (list.within (get_or found k d) (Contains-get_or found k d here)).0) in omega arith
-
-      needed : IsListOf nat_cmp (Leads (Needs p plan) b) found
-      needed = IsListOf-same (IsLinked links bundles b) (Leads (Needs p plan) b)
-          (λ c linked. linked-needs b c inside (subst (λ rows. IsLinked rows (length graph.seeds) b c) same (subst (λ n. IsLinked links n b c) all linked)))
-          (λ c walk. subst (λ n. IsLinked links n b c) (sym all) (subst (λ rows. IsLinked rows (length graph.seeds) b c) (sym same) (needs-linked b c inside walk)))
-          found list

@@ -92,3 +92,7 @@ pub record IsFound (graph : Graph) (b : ℕ) (lay : LayBundle) : Type 0 where
   pub members : lay.members ≡ map (number_at graph) found
   pub refs : lay.refs ≡ map (λ r. map (home_at b graph.bundles) (refs_at graph r)) found
   pub direct : IsListOf nat_cmp (IsNamedIn lay.refs) lay.direct
+
+-- what a bundle needs, by what a search from its entries found
+abbrev pub IsDirect : Graph → ℕ → List ℕ → Type 0
+IsDirect graph b direct = (lay : LayBundle) × IsFound graph b lay × (direct ≡ lay.direct)

@@ -1,12 +1,13 @@
 // Whole counts over all bundles, for limits that are tested before anything is held: one bundle's marks at a time.
-ghost use Rattle.std.specs.Prelude.{◌≡◌, ◌<◌, ◌^◌, length, IfOk};
+ghost use Rattle.std.specs.Prelude.{◌≡◌, ◌<◌, ◌≤◌, ◌^◌, length, IfOk};
 ghost use Rattle.std.specs.Bool.{MatchBool};
 ghost use Rattle.addr_walks.specs.Rows.{AreBelow, IsSizeOf, LedTo};
 ghost use Rattle.addr_layout.specs.Counts.{IsDepsCount, IsMembersCount};
 ghost use Rattle.addr_layout.specs.Graph.{IsSized, seeds_at};
-ghost use Rattle.addr_layout.specs.Links.{IsLinked};
+ghost use Rattle.addr_layout.specs.Links.{FollowsNeeds, IsLinked};
 ghost use Rattle.addr_layout.specs.Members.{IsShared};
 
+use crate::direct::direct_within;
 use crate::graph::{Graph, graph_of};
 use crate::links::links_of;
 use addr_base::{Items, NoMemory};
@@ -14,6 +15,10 @@ use addr_pack::Plan;
 use addr_project::Project;
 use addr_walks::Search;
 use std::alloc::Global;
+
+/// The most numbers that rows of what bundles need may ever have together: as many as a plan may have dependencies. Each number
+/// in them is a dependency, so longer rows are those of a plan that is past its limit.
+const MOST_DIRECT: usize = 4_000_000;
 
 /// How many members the bundles of a placement have together; a kept bundle counts none.
 pub fn members_count(alloc: Global, project: &Project, plan: &Plan) -> Result<u64, NoMemory>
@@ -46,39 +51,82 @@ fn member_count(graph: &Graph, search: &mut Search, b: usize, kept: bool) -> Res
     Ok(count)
 }
 
-/// How many dependencies the bundles of a placement have together, each bundle itself with them. Holds a row for each bundle
-/// and each asset, as long as their references together, and what one bundle's search finds; makes one search a bundle.
+/// How many dependencies the bundles of a placement have together, each bundle itself with them. Holds what each bundle needs, no
+/// more numbers than there are references, or, where there would be more, a row for each bundle and each asset, which have each
+/// reference at most twice; makes two searches a bundle, one of what stands in it and one of what it depends on.
 pub fn deps_count(alloc: Global, project: &Project, plan: &Plan) -> Result<u64, NoMemory>
     requires few { length plan.now.bundles < 2 ^ 31 }
     requires shared { IsShared project.now plan.now }
     ensures { IfOk result (IsDepsCount project.now plan.now) }
 {
+    let rows = need_rows(alloc, project, plan)?;
+    let total = count_over(alloc, project, plan, rows.as_slice())?;
+    Ok(total)
+}
+
+/// Rows of what each bundle needs, or where these are too long, of links.
+fn need_rows(alloc: Global, project: &Project, plan: &Plan) -> Result<Items<Items<u32>>, NoMemory>
+    requires few { length plan.now.bundles < 2 ^ 31 }
+    requires shared { IsShared project.now plan.now }
+    ensures { IfOk result (FollowsNeeds project.now plan.now) }
+{
     project.kept();
     let graph = graph_of(alloc, project, plan)?;
-    let rows = links_of(alloc, &graph)?;
-    let links = rows.as_slice();
-    let mut search = Search::new(alloc, links.len())?;
+    let mut search = Search::new(alloc, graph.guids.len())?;
+    match direct_within(alloc, &graph, &mut search, most_direct(&graph))? {
+        Some(direct) => Ok(direct),
+        None => {
+            let links = links_of(alloc, &graph)?;
+            Ok(links)
+        }
+    }
+}
+
+/// As many numbers as there are references: over rows that are no longer a search costs no more than it can over links. Where
+/// many bundles copy an asset with many references, rows of links are the shorter ones, since they have it once.
+fn most_direct(graph: &Graph) -> usize
+    ensures { result ≤ 4000000 }
+{
+    let mut most: usize = 0;
+    for refs in graph.refs.as_slice().iter() {
+        most = most.saturating_add(refs.len()).min(MOST_DIRECT);
+    }
+    most
+}
+
+/// The dependencies of all bundles, by one search a bundle over rows that lead as needs do.
+fn count_over(
+    alloc: Global,
+    project: &Project,
+    plan: &Plan,
+    rows: &[Items<u32>],
+) -> Result<u64, NoMemory>
+    requires few { length plan.now.bundles < 2 ^ 31 }
+    requires follows { FollowsNeeds project.now plan.now rows.now }
+    ensures { IfOk result (IsDepsCount project.now plan.now) }
+{
+    let mut search = Search::new(alloc, rows.len())?;
     let bundles = plan.bundles.len();
     let mut total = 0;
     for b in 0..bundles {
-        let count = dep_count(links, &mut search, bundles, b as u32)?;
+        let count = dep_count(rows, &mut search, bundles, b as u32)?;
         total += count as u64;
     }
     Ok(total)
 }
 
 fn dep_count(
-    links: &[Items<u32>],
+    rows: &[Items<u32>],
     search: &mut Search,
     bundles: usize,
     b: u32,
 ) -> Result<usize, NoMemory>
-    requires below { AreBelow links.now (length links.now) }
-    requires within { b < length links.now }
-    requires size { search.old ≡ length links.now }
+    requires below { AreBelow rows.now (length rows.now) }
+    requires within { b < length rows.now }
+    requires size { search.old ≡ length rows.now }
     ensures size { search.new ≡ search.old }
-    ensures count { IfOk result (IsSizeOf (IsLinked links.now bundles b)) }
+    ensures count { IfOk result (IsSizeOf (IsLinked rows.now bundles b)) }
 {
-    let count = search.count_below(links, &[b], bundles)?;
+    let count = search.count_below(rows, &[b], bundles)?;
     Ok(count)
 }

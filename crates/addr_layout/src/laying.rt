@@ -67,7 +67,13 @@ fn bare(alloc: Global) -> LayBundle
     }
 }
 
-fn full(alloc: Global, graph: &Graph, search: &mut Search, b: usize) -> Result<LayBundle, NoMemory>
+/// A bundle as if it weren't kept.
+pub fn full(
+    alloc: Global,
+    graph: &Graph,
+    search: &mut Search,
+    b: usize,
+) -> Result<LayBundle, NoMemory>
     requires sized { IsSized graph.now }
     requires few { length graph.now.seeds < 2 ^ 32 }
     requires within { b < length graph.now.seeds }

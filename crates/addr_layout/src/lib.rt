@@ -7,6 +7,7 @@
 #![tactic(auto)]
 
 mod counting;
+mod direct;
 mod graph;
 mod guids;
 mod homes;
