@@ -24,6 +24,7 @@ use Rattle.addr_catalog.specs.Catalogue.{catalogue_read}
 use Rattle.addr_catalog.specs.Numbers.{error_number}
 use Rattle.addr_catalog.specs.declared.catalogue.Catalogue.{Catalogue}
 use Rattle.addr_catalog.specs.declared.error.CatErr.{CatErr}
+use Rattle.addr_catalog.specs.declared.error.CatErr.TheVariants.{NoMemory as CatNoFault}
 use Rattle.addr_locate.specs.PlainRows.{ReadsRows}
 use Rattle.addr_locate.specs.PlainText.{plain_text}
 use Rattle.addr_locate.specs.Rows.{Rows}
@@ -59,7 +60,7 @@ HasRows files name rows = (IsJsonName name × (c : Catalogue) × HasCatalogue fi
 
 -- the file is there and is no catalogue, by a first fault with that number; isn't in the plain form, the first bad line being n
 abbrev pub IsBadCatalogue : List MemFile → List ℕ → ℕ → Type 0
-IsBadCatalogue files name n = (bytes : List ℕ) × (file_at name files ≡ Some bytes) × (fault : CatErr) × (catalogue_read bytes ≡ Err fault) × (n ≡ error_number fault)
+IsBadCatalogue files name n = (bytes : List ℕ) × (file_at name files ≡ Some bytes) × (fault : CatErr) × (fault ≢ CatNoFault) × (catalogue_read bytes ≡ Err fault) × (n ≡ error_number fault)
 
 abbrev pub IsBadPlain : List MemFile → List ℕ → ℕ → Type 0
 IsBadPlain files name n = (bytes : List ℕ) × (file_at name files ≡ Some bytes) × ReadsRows bytes (Err (RowsLine n))

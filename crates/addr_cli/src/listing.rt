@@ -14,7 +14,7 @@ use addr_locate::{Locator, read_rows, write_rows};
 use std::alloc::Global;
 
 /// The rows of the catalogue that the file is, as text.
-pub fn list_file<D: Depot>(alloc: Global, file: &Text, depot: &mut D) -> Result<Text, Refusal>
+pub fn rows_text<D: Depot>(alloc: Global, file: &Text, depot: &mut D) -> Result<Text, Refusal>
     ensures ends { CommandEnds (list_rows file.now) (record { files = D.files depot.old; faults = D.faults depot.old }) (record { files = D.files depot.new; faults = D.faults depot.new }) result }
     ensures same { D.files depot.new ≡ D.files depot.old }
 {

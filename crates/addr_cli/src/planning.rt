@@ -1,4 +1,4 @@
-// `plan`: the bundles that a project folder is packed into. The limits are tested before anything that they bound is held.
+// `plan`: the bundles that a project folder is packed into. Both limits are tested before a layout is made.
 ghost use Rattle.std.specs.Prelude.{◌≡◌};
 ghost use Rattle.addr_cli.specs.Outcome.{CommandEnds, Planned};
 ghost use Rattle.addr_cli.specs.Planning.{ReadsProject};

@@ -1,4 +1,4 @@
-// Why a command is refused. One enum stands for all commands; each layer's error becomes its variant by `?`.
+// Why a command is refused. One enum stands for all commands; the errors of the layers below become its variants.
 ghost use Rattle.std.specs.Prelude.{◌≡◌, IfOk, string_bytes};
 ghost use Rattle.addr_cli.specs.Refusals.{refusal_status, refusal_text};
 

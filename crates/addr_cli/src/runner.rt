@@ -7,7 +7,7 @@ ghost use Rattle.addr_cli.specs.Words.{IsCommandLine, simulate};
 use crate::command::{Request, request_of};
 use crate::files::read_file;
 use crate::inspecting::inspect_file;
-use crate::listing::{list_file, read_rows_file};
+use crate::listing::{read_rows_file, rows_text};
 use crate::planning::plan_folder;
 use crate::refusal::Refusal;
 use crate::report::report;
@@ -36,7 +36,7 @@ fn command_text<D: Depot>(alloc: Global, words: &[Text], depot: &mut D) -> Resul
 {
     match request_of(words) {
         Some(Request::Simulate { rows, script }) => simulate_files(alloc, rows, script, depot),
-        Some(Request::ListRows { file }) => list_file(alloc, file, depot),
+        Some(Request::ListRows { file }) => rows_text(alloc, file, depot),
         Some(Request::Inspect { file }) => inspect_file(alloc, file, depot),
         Some(Request::Plan { folder }) => plan_folder(alloc, folder, depot),
         None => Err(Refusal::Usage),

@@ -1,4 +1,4 @@
-// Whole counts over all bundles, for limits that are tested before anything is held: one bundle's marks at a time.
+// Whole counts over all bundles, for limits that are tested before a layout or a dependency list is made.
 ghost use Rattle.std.specs.Prelude.{◌≡◌, ◌<◌, ◌≤◌, ◌^◌, length, IfOk};
 ghost use Rattle.std.specs.Bool.{MatchBool};
 ghost use Rattle.addr_walks.specs.Rows.{AreBelow, IsSizeOf, LedTo};
@@ -16,8 +16,8 @@ use addr_project::Project;
 use addr_walks::Search;
 use std::alloc::Global;
 
-/// The most numbers that rows of what bundles need may ever have together: as many as a plan may have dependencies. Each number
-/// in them is a dependency, so longer rows are those of a plan that is past its limit.
+/// The most numbers that rows of what bundles need may ever have together. It bounds memory alone: the count is the same over
+/// either kind of rows. Each number in them is a dependency, so longer rows are those of a plan with as many of these.
 const MOST_DIRECT: usize = 4_000_000;
 
 /// How many members the bundles of a placement have together; a kept bundle counts none.

@@ -1,5 +1,5 @@
 // Bundles and assets as rows of numbers, made once, over which one search a bundle finds the bundles that it depends on.
-// The search comes by no entry: a bundle has the links of its entries, and every other reference to one leads to its bundle.
+// The search never comes upon an entry: a bundle has the links of its entries, and every other reference to one leads to its bundle.
 ghost use Rattle.std.specs.Prelude.{◌≡◌, ◌++◌, ◌<◌, ◌^◌, length, map, IfOk, OnOk};
 ghost use Rattle.std.specs.List.{All, flat_map};
 ghost use Rattle.addr_layout.specs.Graph.{IsSized};

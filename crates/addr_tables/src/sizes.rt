@@ -16,6 +16,7 @@ const TABLE_BOUND: u64 = 1 << 31;
 /// The bytes of a count, which each table but the extra one begins with.
 const COUNT_SIZE: u64 = 4;
 
+/// Seven numbers of four bytes.
 const ENTRY_SIZE: u64 = 28;
 
 #[tactic(auto, unfolding(addr_keys::specs::Format::is_ascii))]
@@ -122,7 +123,7 @@ fn are_within(sizes: &[u64]) -> bool
     sizes.iter().all(|size| *size < TABLE_BOUND)
 }
 
-/// Whether each table of the rows stays below its bound.
+/// Whether each table of the rows stays below its bound. Linear in the rows; takes no memory.
 pub fn are_small(rows: &Rows) -> bool
     requires { length rows.now.buckets ≡ length rows.now.keys }
     ensures { IsTrue result ↔ AreSmall rows.now }
