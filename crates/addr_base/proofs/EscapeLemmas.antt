@@ -5,7 +5,7 @@ use Rattle.std.proofs.lemmas.Bool.Decides.{nat_tests}
 use Rattle.std.proofs.lemmas.List.{drop_more}
 use Rattle.std.proofs.lemmas.List.Elements.{Contains-append_cases}
 use Rattle.std.specs.List.{Contains}
-use Rattle.addr_base.specs.Escapes.{is_plain, hex_digit, escaped_byte, escaped}
+use Rattle.addr_base.specs.Escapes.{is_name_byte, hex_digit, escaped_byte, escaped}
 
 -- one more byte before the rest
 pub escaped-drop : (bytes : List ℕ) (i : ℕ) → i < length bytes → escaped (drop i bytes) ≡ escaped_byte (get_or bytes i 0) ++ escaped (drop (i + 1) bytes)
@@ -20,7 +20,7 @@ contains-none : (y : ℕ) → Contains [] y → ⊥
 contains-none y (i, small, is) = absurd (omega arith)
 
 -- no byte's spelling has an underscore
-byte_without : (b : ℕ) (t : Bool) → is_plain b ≡ t → Contains (escaped_byte b) 95 → ⊥
+byte_without : (b : ℕ) (t : Bool) → is_name_byte b ≡ t → Contains (escaped_byte b) 95 → ⊥
 unfolding escaped_byte
 byte_without b true plain found = elim (contains-cases b [] 95 (rw plain at found)) [
   | inl same ↦ grind (arith, nat_tests)
@@ -39,7 +39,7 @@ byte_without b false other found = elim (contains-cases 126 (hex_digit (b / 16) 
 
 pub without_underscore : (text : List ℕ) → Contains (escaped text) 95 → ⊥
 without_underscore [] found = contains-none 95 found
-without_underscore (b ∷ text) found = ⊎_elim (byte_without b (is_plain b) refl) (without_underscore text) (Contains-append_cases (escaped_byte b) (escaped text) 95 found)
+without_underscore (b ∷ text) found = ⊎_elim (byte_without b (is_name_byte b) refl) (without_underscore text) (Contains-append_cases (escaped_byte b) (escaped text) 95 found)
 
 -- two digits of one spelling are of one number
 hex_digit-injective : (m n : ℕ) → hex_digit m ≡ hex_digit n → m ≡ n
@@ -51,10 +51,10 @@ split_again x y high low = omega arith
 joined : (x y : ℕ) (xs ys : List ℕ) → x ≡ y → xs ≡ ys → x ∷ xs ≡ y ∷ ys
 joined x y xs ys e es = cc
 
-tilde_is_other : (x : ℕ) → x ≡ 126 → is_plain x ≡ true → ⊥
-tilde_is_other x e p = false≢true (sym (ap is_plain e) ∙ p)
+tilde_is_other : (x : ℕ) → x ≡ 126 → is_name_byte x ≡ true → ⊥
+tilde_is_other x e p = false≢true (sym (ap is_name_byte e) ∙ p)
 
-heads : (x y : ℕ) (s t : Bool) → is_plain x ≡ s → is_plain y ≡ t → (xs ys : List ℕ) → escaped_byte x ++ xs ≡ escaped_byte y ++ ys → (x ≡ y) × (xs ≡ ys)
+heads : (x y : ℕ) (s t : Bool) → is_name_byte x ≡ s → is_name_byte y ≡ t → (xs ys : List ℕ) → escaped_byte x ++ xs ≡ escaped_byte y ++ ys → (x ≡ y) × (xs ≡ ys)
 unfolding escaped_byte
 heads x y true true p q xs ys same = let e : x ∷ xs ≡ y ∷ ys = rw (p, q) at same in ((cc), (cc))
 heads x y true false p q xs ys same =
@@ -72,15 +72,15 @@ heads x y false false p q xs ys same =
     let rest : xs ≡ ys = cc in
     (split_again x y (hex_digit-injective (x / 16) (y / 16) high) (hex_digit-injective (x % 16) (y % 16) low), rest)
 
-nonempty : (y : ℕ) (t : Bool) → is_plain y ≡ t → (ys : List ℕ) → [] ≡ escaped_byte y ++ ys → ⊥
+nonempty : (y : ℕ) (t : Bool) → is_name_byte y ≡ t → (ys : List ℕ) → [] ≡ escaped_byte y ++ ys → ⊥
 unfolding escaped_byte
 nonempty y true q ys same = let e : [] ≡ y ∷ ys = rw q at same in cc
 nonempty y false q ys same = let e : [] ≡ 126 ∷ hex_digit (y / 16) ∷ hex_digit (y % 16) ∷ ys = rw q at same in cc
 
 pub escaped-injective : (a b : List ℕ) → escaped a ≡ escaped b → a ≡ b
 escaped-injective [] [] same = refl
-escaped-injective [] (y ∷ b) same = absurd (nonempty y (is_plain y) refl (escaped b) same)
-escaped-injective (x ∷ a) [] same = absurd (nonempty x (is_plain x) refl (escaped a) (sym same))
+escaped-injective [] (y ∷ b) same = absurd (nonempty y (is_name_byte y) refl (escaped b) same)
+escaped-injective (x ∷ a) [] same = absurd (nonempty x (is_name_byte x) refl (escaped a) (sym same))
 escaped-injective (x ∷ a) (y ∷ b) same =
-    let both = heads x y (is_plain x) (is_plain y) refl refl (escaped a) (escaped b) same in
+    let both = heads x y (is_name_byte x) (is_name_byte y) refl refl (escaped a) (escaped b) same in
     joined x y a b both.0 (escaped-injective a b both.1)

@@ -1,6 +1,7 @@
 -- The fakes in memory, as their callers see them: the files, what was written, and which calls are told to fail.
-use Rattle.std.specs.Prelude.{ℕ, ◌≡◌, ◌+◌, ◌-◌, ◌^◌, ◌≤◌, ◌==◌, min, Bool, true, List, length, Result, Ok, Err, IsSomeAnd, ◌⊎◌}
+use Rattle.std.specs.Prelude.{ℕ, ◌≡◌, ◌^◌, ◌≤◌, ◌==◌, Bool, true, List, length, Result, Ok, Err, IsSomeAnd, ◌⊎◌}
 use Rattle.std.specs.List.{list_any}
+use Rattle.addr_base.specs.Faults.{one_more}
 use Rattle.addr_base.specs.Files.{file_at}
 use Rattle.addr_base.specs.declared.depot.DepotErr.{DepotErr}
 use Rattle.addr_base.specs.declared.depot.DepotErr.TheVariants.{Fault, NoMemory}
@@ -8,10 +9,6 @@ use Rattle.addr_base.specs.declared.fail_plan.FailPlan.{FailPlan}
 use Rattle.addr_base.specs.declared.files.MemFile.{MemFile}
 use Rattle.addr_base.specs.declared.mem_conn.MemConn.{MemConn}
 use Rattle.addr_base.specs.declared.mem_depot.MemDepot.{MemDepot}
-
--- one more, up to the end of a u64
-abbrev pub one_more : ℕ → ℕ
-one_more n = min (n + 1) (2 ^ 64 - 1)
 
 -- whether the next call is told to fail; calls are numbered from 1 on
 abbrev pub fails_next : FailPlan → Bool
@@ -48,9 +45,12 @@ conn_left conn = conn.input.items
 abbrev pub conn_source_faults : MemConn → ℕ
 conn_source_faults conn = conn.source_faults
 
--- what was put to a connection, which of its calls fail, and how often its sink has failed
+-- what was put to a connection, by how many calls, which of its calls fail, and how often its sink has failed
 abbrev pub conn_written : MemConn → List ℕ
 conn_written conn = conn.output.items
+
+abbrev pub conn_puts : MemConn → ℕ
+conn_puts conn = conn.puts
 
 abbrev pub conn_sink_faults : MemConn → ℕ
 conn_sink_faults conn = conn.sink_faults

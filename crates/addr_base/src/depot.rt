@@ -32,7 +32,7 @@ pub trait Depot {
     /// How often the depot has failed; at its greatest value the count stands still.
     ghost faults: { Self → ℕ };
 
-    /// The file with that name, or None where no file has it. A longer file than a slice may be is a fault.
+    /// The file with that name, or None where no file has it. A file of 2^32 bytes or more is a fault.
     fn read(&mut self, alloc: Global, name: &str) -> Result<Option<Vec<u8>>, DepotErr>
         ensures content { IfOk result (λ found. IfSome (files self.old) (λ fs. option_map (λ v. v.items) found ≡ file_at name.now fs)) }
         ensures small { IfOk result (λ found. IfSome found (λ v. vec_len v < 2 ^ 32)) }

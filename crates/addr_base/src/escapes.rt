@@ -2,7 +2,7 @@
 // different texts have different spellings.
 ghost use Rattle.std.specs.Prelude.{◌≡◌, ◌<◌, ◌++◌, [], ◌∷◌, List, ℕ, IfOk, OnOk, string_bytes};
 ghost use Rattle.std.specs.List.{Contains};
-ghost use Rattle.addr_base.specs.Escapes.{is_plain, hex_digit, escaped_byte, escaped};
+ghost use Rattle.addr_base.specs.Escapes.{is_name_byte, hex_digit, escaped_byte, escaped};
 
 use crate::memory::NoMemory;
 use crate::text::Text;
@@ -29,7 +29,7 @@ pub fn spellings_differ()
 fn push_escaped(name: &mut String, b: u8) -> Result<(), NoMemory>
     ensures { OnOk result (string_bytes name.new ≡ string_bytes name.old ++ escaped_byte b) }
 {
-    if is_plain(b) {
+    if is_name_byte(b) {
         name.push(char::from(b))?;
     } else {
         name.push('~')?;
@@ -39,8 +39,8 @@ fn push_escaped(name: &mut String, b: u8) -> Result<(), NoMemory>
     Ok(())
 }
 
-fn is_plain(b: u8) -> bool
-    ensures { result ≡ is_plain b }
+fn is_name_byte(b: u8) -> bool
+    ensures { result ≡ is_name_byte b }
 {
     (b'A' <= b && b <= b'Z') || (b'a' <= b && b <= b'z') || (b'0' <= b && b <= b'9') || b == b'-'
 }

@@ -2,7 +2,8 @@
 // one number.
 ghost use Rattle.std.specs.Prelude.{◌≡◌, ◌==◌};
 ghost use Rattle.std.specs.List.{list_any};
-ghost use Rattle.addr_base.specs.Memory.{fails_next, one_more};
+ghost use Rattle.addr_base.specs.Faults.{one_more};
+ghost use Rattle.addr_base.specs.Memory.{fails_next};
 
 /// The numbers of the calls that are to fail, from 1 on, and how many calls there were.
 #[derive(Drop)]

@@ -1,10 +1,11 @@
 // GUIDs and digests as text: 32 lower-case hex digits, written and read. A text is read loosely, written again and
 // compared, so that upper-case digits are refused like any other text.
-ghost use Rattle.std.specs.Prelude.{◌≡◌, ◌↔◌, ℕ, List, IsTrue};
+ghost use Rattle.std.specs.Prelude.{◌≡◌, ℕ, List};
 ghost use Rattle.std.specs.Option.{option_map};
 ghost use Rattle.std.specs.Str.{IsAscii};
 ghost use Rattle.addr_base.specs.Ids.{Are16Bytes, ReadsHex, hex_of};
 
+use crate::byte_strings::is_same;
 use crate::ids::{Digest, Guid};
 use hex::FromHex;
 use std::fmt;
@@ -33,6 +34,19 @@ impl Guid {
     }
 }
 
+impl Digest {
+    /// The digest that 32 lower-case hex digits spell.
+    pub fn parse(text: &str) -> Option<Digest>
+        ensures reads { ReadsHex text.now (option_map (λ digest. digest.0) result) }
+        ensures again { (bytes : List ℕ) → Are16Bytes bytes → text.now ≡ hex_of bytes → result ≡ Some (record { 0 = bytes }) }
+    {
+        match parse_hex(text.as_bytes()) {
+            Some(bytes) => Some(Digest(bytes)),
+            None => None,
+        }
+    }
+}
+
 impl fmt::Display for Guid {
     ghost use Rattle.std.specs.Prelude.{Some};
     ghost use Rattle.addr_base.specs.Ids.{hex_of};
@@ -55,12 +69,6 @@ impl fmt::Display for Digest {
         let digits = hex_digits(self.0);
         f.write_str(as_text(&digits))
     }
-}
-
-pub(crate) fn is_same(a: &[u8], b: &[u8]) -> bool
-    ensures { IsTrue result ↔ (a.now ≡ b.now) }
-{
-    a == b
 }
 
 fn hex_digits(bytes: [u8; 16]) -> [u8; 32]

@@ -7,6 +7,7 @@
 #![tactic(auto)]
 
 mod braced_names;
+mod byte_strings;
 mod cause;
 mod depot;
 mod escapes;
@@ -30,6 +31,7 @@ mod told;
 mod var;
 
 pub use braced_names::braces;
+pub use byte_strings::is_same;
 pub use cause::{Cause, Layer};
 pub use depot::{Depot, DepotErr};
 pub use escapes::{esc, spellings_differ};

@@ -1,5 +1,6 @@
 // The real edge: files below the working folder, and standard output. Nothing can be told of what the system holds, so
-// both tell None; each error is counted. This file is trusted to do what its comments say, and has tests alone.
+// both tell None; each error is counted, and each put to standard output. This file is trusted to do what its comments
+// say, and has tests alone.
 ghost use Rattle.std.specs.Prelude.{◌≡◌};
 
 use crate::depot::{Depot, DepotErr};
@@ -70,14 +71,20 @@ impl<R: Files> Depot for FolderDepot<'_, R> {
 #[derive(Drop)]
 pub struct OutSink<'a, R> {
     rt: &'a R,
+    puts: u64,
     faults: u64,
 }
 
 impl<'a, R> OutSink<'a, R> {
     pub fn new(rt: &'a R) -> OutSink<'a, R>
-        ensures { result.faults ≡ 0 }
+        ensures puts { result.puts ≡ 0 }
+        ensures faults { result.faults ≡ 0 }
     {
-        OutSink { rt, faults: 0 }
+        OutSink {
+            rt,
+            puts: 0,
+            faults: 0,
+        }
     }
 }
 
@@ -86,9 +93,12 @@ impl<R: Print> Sink for OutSink<'_, R> {
 
     ghost written = { λ _. None };
 
+    ghost puts = { λ sink. sink.puts };
+
     ghost faults = { λ sink. sink.faults };
 
     fn put(&mut self, bytes: &[u8]) -> Result<(), Failed> {
+        self.puts = self.puts.saturating_add(1);
         let mut out = io::writer(self.rt);
         if out.write_all(bytes).is_err() || out.flush().is_err() {
             self.faults = self.faults.saturating_add(1);

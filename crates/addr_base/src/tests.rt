@@ -1,7 +1,7 @@
 // What no clause says: values from outside, and that each call can succeed.
 use crate::{
-    Depot, DepotErr, FolderDepot, Guid, MemConn, MemDepot, OutSink, Sink, Text, Var, braces,
-    digest, token, untoken_bytes,
+    Depot, DepotErr, Digest, FolderDepot, Guid, MemConn, MemDepot, OutSink, Sink, Text, Var,
+    braces, digest, token, untoken, untoken_bytes,
 };
 use std::alloc::Global;
 use std::fs;
@@ -17,9 +17,14 @@ fn writes_and_reads_tokens(rt: HostRuntime) -> Result<(), Fail> {
     ] {
         let made = token(rt.alloc(), text)?;
         assert_eq!(rt; made.as_str(), want);
-        match untoken_bytes(rt.alloc(), want.as_bytes())? {
-            Some(read) => assert_eq!(rt; read.as_str(), text),
-            None => assert!(rt; false, "{want}"),
+        for found in [
+            untoken(rt.alloc(), made.as_str())?,
+            untoken_bytes(rt.alloc(), want.as_bytes())?,
+        ] {
+            match found {
+                Some(read) => assert_eq!(rt; read.as_str(), text),
+                None => assert!(rt; false, "{want}"),
+            }
         }
     }
     for bytes in ["", "%-", "%41", "%c3%a9", "%FF", "%2", "a b", "a,b", "%20%"] {
@@ -35,6 +40,7 @@ fn writes_and_reads_tokens(rt: HostRuntime) -> Result<(), Fail> {
 fn cuts_and_prints_digests(rt: HostRuntime) -> Result<(), Fail> {
     let text = format!(in rt.alloc(); "{}", digest(b"abc"))?;
     assert_eq!(rt; text.as_str(), "ba7816bf8f01cfea414140de5dae2223");
+    assert_eq!(rt; Digest::parse(text.as_str()), Some(digest(b"abc")));
     let guid = Guid::parse(text.as_str());
     assert_eq!(rt; guid, Some(Guid(digest(b"abc").0)));
     assert_eq!(rt; Guid::parse("BA7816BF8F01CFEA414140DE5DAE2223"), None);

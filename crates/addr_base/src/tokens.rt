@@ -8,14 +8,14 @@ ghost use Rattle.addr_base.specs.LooseTokens.{loose_byte, loose_digit, loose_pla
 ghost use Rattle.addr_base.specs.declared.tokens.Place.TheVariants.{Plain};
 ghost use Rattle.addr_base.specs.Tokens.{IsMark, ReadsToken, is_plain, is_token_byte, token_byte, token_of};
 
-use crate::hex_text::is_same;
+use crate::byte_strings::is_same;
 use crate::memory::NoMemory;
 use crate::text::Text;
 use std::alloc::Global;
 
 const UPPER_DIGITS: &[u8; 16] = b"0123456789ABCDEF";
 
-/// The token of a text. It takes up to three bytes for each byte of the text.
+/// The token of a text: up to three bytes for each byte of the text, and one byte for the empty text.
 pub fn token(alloc: Global, text: &str) -> Result<Text, NoMemory>
     ensures { IfOk result (λ token. token ≡ token_of text.now) }
 {

@@ -1,5 +1,5 @@
 -- A field that is read is the field that was written, and what was written is read again.
-use Rattle.std.proofs.Common.{◌≡◌, ℕ, ◌^◌, ◌<◌, ◌≤◌, Bool, true, false, cond, ltb, List, ◌++◌, length, take, Option, Some, None, Result, Ok, Err, refl, sym, subst, arith, length-append, length-take, bytes_eq}
+use Rattle.std.proofs.Common.{◌≡◌, ℕ, ◌^◌, ◌<◌, ◌≤◌, Bool, true, false, cond, ltb, List, ◌++◌, length, take, Option, Some, None, Result, Ok, Err, refl, sym, ap, subst, ◌∙◌, arith, length-append, length-take, bytes_eq}
 use Rattle.std.specs.Int.{Width, w32, w64, byte_len, from_le_bytes, to_le_bytes}
 use Rattle.std.proofs.lemmas.Bool.{ltb-false, le-ltb}
 use Rattle.std.proofs.lemmas.List.{take_at, drop_at, take-append-drop}
@@ -109,18 +109,16 @@ pub number_takes : (w : Width) (limit : ℕ) (wide : IsWide w limit) (c : Tail) 
 unfolding number_at
 number_takes w limit wide c x fits e =
     let k = byte_len w in
-    let g = guard_ok (ltb (length c.rest) k) (Short (place c)) (Ok (from_le_bytes w (take k c.rest), past k c)) x e in
-    let long : k ≤ length c.rest = ltb-false _ _ g.0 in
-    let front : to_le_bytes w (from_le_bytes w (take k c.rest)) ≡ take k c.rest = wide.back (take k c.rest) (omega (arith, length-take k c.rest)) (IsBytes-take k c.rest fits) in
-    let taken : Takes c (to_le_bytes w (from_le_bytes w (take k c.rest))) (past k c) = record { parts = rw front (sym (take-append-drop k c.rest)); end = refl; fits = IsBytes-drop k c.rest fits } in
-    subst (λ (y : ℕ × Tail). Takes c (to_le_bytes w y.0) y.1 × (y.0 < limit)) (ok_is _ _ g.1) (taken, wide.below (take k c.rest) (IsBytes-take k c.rest fits))
+    let bytes = bind_ok (bytes_at k c) _ x e in
+    let taken = bytes_takes k c bytes.0 fits bytes.1 in
+    let front : IsBytes bytes.0.0 = subst IsBytes (ap (take k) taken.0.parts ∙ take_at bytes.0.0 bytes.0.1.rest k taken.1) (IsBytes-take k c.rest fits) in
+    let back : to_le_bytes w (from_le_bytes w bytes.0.0) ≡ bytes.0.0 = wide.back bytes.0.0 taken.1 front in
+    let number : Takes c (to_le_bytes w (from_le_bytes w bytes.0.0)) bytes.0.1 = subst (λ (text : List ℕ). Takes c text bytes.0.1) (sym back) taken.0 in
+    subst (λ (y : ℕ × Tail). Takes c (to_le_bytes w y.0) y.1 × (y.0 < limit)) (ok_is _ _ bytes.2) (number, wide.below bytes.0.0 front)
 
 pub number_again : (w : Width) (limit : ℕ) (wide : IsWide w limit) (n end : ℕ) (rest : List ℕ) → n < limit → number_at w (record { end = end; rest = to_le_bytes w n ++ rest }) ≡ Ok (n, record { end = end; rest = rest })
 unfolding number_at
-number_again w limit wide n end rest lt =
-    let len = wide.len n in
-    let long : ltb (length (to_le_bytes w n ++ rest)) (byte_len w) ≡ false = le-ltb _ _ (omega (arith, length-append (to_le_bytes w n) rest)) in
-    rw (long, take_at (to_le_bytes w n) rest (byte_len w) len, drop_at (to_le_bytes w n) rest (byte_len w) len, wide.again n lt) refl
+number_again w limit wide n end rest lt = rw (bytes_again (byte_len w) end (to_le_bytes w n) rest (wide.len n), wide.again n lt) refl
 
 -- ---- the first bytes
 

@@ -11,7 +11,7 @@ use Rattle.addr_unityfs.specs.Faults.{Tail, place, whole, past}
 use Rattle.addr_cab.specs.declared.object.ObjectRow.{ObjectRow}
 use Rattle.addr_cab.specs.declared.error.CabErr.{CabErr}
 use Rattle.addr_cab.specs.declared.error.CabErr.TheVariants.{Short, Magic, Order, Range, Ref, Trailing}
-use Rattle.addr_cab.specs.Spelling.{magic, is_above, leads_to, is_own, row_len}
+use Rattle.addr_cab.specs.Spelling.{magic, is_above, leads_to, is_own, row_front, ref_len, name_len, names_at, table_front, row_len}
 
 -- a value that was read is handed on, and a fault ends the reading
 infixl 10 ◌>>=◌
@@ -25,7 +25,9 @@ bytes_at n c = if nat_lt (length c.rest) n then Err (Short (place c)) else Ok (t
 
 -- a number of a width, little-endian
 unfoldable pub number_at : Width → Tail → Result (ℕ × Tail) CabErr
-number_at w c = if nat_lt (length c.rest) (byte_len w) then Err (Short (place c)) else Ok (from_le_bytes w (take (byte_len w) c.rest), past (byte_len w) c)
+number_at w c = do
+  bytes ← bytes_at (byte_len w) c
+  Ok (from_le_bytes w bytes.0, bytes.1)
 
 unfoldable pub magic_at : Tail → Result Tail CabErr
 magic_at c = do
@@ -100,7 +102,7 @@ is_lost rows r = is_own r.home && not (list_any (has_guid r.guid.0) rows)
 
 -- the place of the first lost one of references, which stand at a place
 abbrev pub lost_ref : List ObjectRow → ℕ → List RefTo → Option ℕ
-lost_ref rows at refs = option_map (λ i. at + 20 * i) (position (is_lost rows) refs)
+lost_ref rows at refs = option_map (λ i. at + ref_len * i) (position (is_lost rows) refs)
 
 abbrev pub first_of : {A : Type 0} → Option A → Option A → Option A
 first_of None other = other
@@ -109,7 +111,7 @@ first_of (Some x) other = Some x
 -- the place of the first lost reference of some of the objects, which stand at a place
 unfoldable pub lost_at : List ObjectRow → ℕ → List ObjectRow → Option ℕ
 lost_at rows at [] = None
-lost_at rows at (o ∷ os) = first_of (lost_ref rows (at + 36) o.refs) (lost_at rows (at + row_len o) os)
+lost_at rows at (o ∷ os) = first_of (lost_ref rows (at + row_front) o.refs) (lost_at rows (at + row_len o) os)
 
 -- whether no reference leads to the bundle
 unfoldable pub is_unnamed : List ObjectRow → Digest → Bool
@@ -117,14 +119,14 @@ is_unnamed rows name = not (list_any (λ o. leads_to name o.refs) rows)
 
 -- the place of the first outside bundle that no reference leads to
 abbrev pub unnamed_at : List ObjectRow → List Digest → Option ℕ
-unnamed_at rows outside = option_map (λ i. 8 + 16 * i) (position (is_unnamed rows) outside)
+unnamed_at rows outside = option_map (λ i. names_at + name_len * i) (position (is_unnamed rows) outside)
 
 -- the tests behind the last object, where the data has so much room and its objects end at a place
 unfoldable pub end_fault : List Digest → List ObjectRow → ℕ → ℕ → Tail → Option CabErr
 end_fault outside rows room end c =
     if nat_lt 0 (length c.rest) then Some (Trailing (place c))
     else if not (end == room) then Some (Range c.end)
-    else option_map Ref (first_of (lost_at rows (12 + 16 * length outside) rows) (unnamed_at rows outside))
+    else option_map Ref (first_of (lost_at rows (table_front + name_len * length outside) rows) (unnamed_at rows outside))
 
 abbrev pub unless : {A : Type 0} → Option CabErr → A → Result A CabErr
 unless None x = Ok x

@@ -57,9 +57,26 @@ ref_text outside r = r.guid.0 ++ to_le_bytes w32 (home_number outside r.home)
 abbrev pub row_text : List Digest → ObjectRow → List ℕ
 row_text outside o = o.guid.0 ++ (to_le_bytes w64 o.offset ++ (to_le_bytes w64 o.size ++ (to_le_bytes w32 (length o.refs) ++ flat_map (ref_text outside) o.refs)))
 
+-- the bytes of an object before its references, of a reference, and of an outside bundle
+abbrev pub row_front : ℕ
+row_front = 36
+
+abbrev pub ref_len : ℕ
+ref_len = 20
+
+abbrev pub name_len : ℕ
+name_len = 16
+
+-- where the outside bundles begin, and the bytes of a table beside them and the objects
+abbrev pub names_at : ℕ
+names_at = 8
+
+abbrev pub table_front : ℕ
+table_front = 12
+
 -- how many bytes an object takes in the table
 abbrev pub row_len : ObjectRow → ℕ
-row_len o = 36 + 20 * length o.refs
+row_len o = row_front + ref_len * length o.refs
 
 -- a table: the bundles outside that references lead to, and the objects
 abbrev pub table_text : List Digest → List ObjectRow → List ℕ

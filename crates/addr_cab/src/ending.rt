@@ -1,7 +1,7 @@
 // The tests behind the last object: that nothing is left, that the objects are all of the data, that each reference
 // into the own bundle leads to an object, and that each outside bundle is named.
 ghost use Rattle.std.specs.Prelude.{◌≡◌, ◌+◌, ◌*◌, ◌<◌, ◌^◌, length, sum_by, position, IfSome, IfOk};
-ghost use Rattle.addr_cab.specs.Spelling.{row_len};
+ghost use Rattle.addr_cab.specs.Spelling.{name_len, table_front, row_len};
 ghost use Rattle.addr_cab.specs.Faults.{is_lost, lost_at, unnamed_at, end_fault};
 ghost use Rattle.addr_cab.specs.Outside.{is_absent};
 ghost use Rattle.addr_cab.specs.Tails.{tail};
@@ -14,6 +14,21 @@ use crate::object::ObjectRow;
 use addr_base::{Digest, Home, NoMemory, RefTo};
 use std::alloc::Global;
 use std::collections::BTreeSet;
+
+/// The bytes of an object before its references: GUID, offset, size, and the count of references.
+const ROW_FRONT: u64 = 36;
+
+/// The bytes of a reference: a GUID, and the number of a home.
+const REF_LEN: u64 = 20;
+
+/// The bytes of an outside bundle: its internal name.
+const NAME_LEN: u64 = 16;
+
+/// The place where the outside bundles begin: behind the magic and their count.
+const NAMES_AT: u64 = 8;
+
+/// The bytes beside outside bundles and objects: the magic, and two counts.
+const TABLE_FRONT: u64 = 12;
 
 #[tactic(auto, unfolding(crate::specs::Faults::is_lost))]
 fn is_lost(table: Ascending<'_>, reference: &RefTo) -> bool
@@ -37,7 +52,7 @@ fn row_len(row: &ObjectRow) -> u64
     requires { row_len row.now < 2 ^ 63 }
     ensures { result ≡ row_len row.now }
 {
-    36 + 20 * row.refs.len() as u64
+    ROW_FRONT + REF_LEN * row.refs.len() as u64
 }
 
 /// The place of the first lost reference.
@@ -49,7 +64,7 @@ fn lost_at(table: Ascending<'_>, start: u64) -> Option<u64>
     let mut at = start;
     for row in table.rows {
         if let Some(i) = first_lost(table, row.refs.as_slice()) {
-            return Some(at + 36 + 20 * i as u64);
+            return Some(at + ROW_FRONT + REF_LEN * i as u64);
         }
         at += row_len(row);
     }
@@ -75,12 +90,12 @@ fn unnamed_at(
     rows: &[ObjectRow],
     outside: &[Digest],
 ) -> Result<Option<u64>, NoMemory>
-    requires { 12 + 16 * length outside.now < 2 ^ 63 }
+    requires { table_front + name_len * length outside.now < 2 ^ 63 }
     ensures { IfOk result (λ at. at ≡ unnamed_at rows.now outside.now) }
 {
     let found = homes_of_rows(alloc, rows)?;
     match first_absent(&found, outside) {
-        Some(i) => Ok(Some(8 + 16 * i as u64)),
+        Some(i) => Ok(Some(NAMES_AT + NAME_LEN * i as u64)),
         None => Ok(None),
     }
 }
@@ -95,7 +110,7 @@ pub fn end_fault(
     end: u64,
     rest: Cursor<'_>,
 ) -> Result<Option<CabErr>, NoMemory>
-    requires { 12 + 16 * length outside.now + sum_by row_len table.rows.now < 2 ^ 63 }
+    requires { table_front + name_len * length outside.now + sum_by row_len table.rows.now < 2 ^ 63 }
     ensures { IfOk result (λ fault. fault ≡ end_fault outside.now table.entry.rows.now room end (tail rest.entry)) }
 {
     if rest.rest.len() > 0 {
@@ -104,7 +119,7 @@ pub fn end_fault(
     if end != room {
         return Ok(Some(CabErr::Range { at: rest.end }));
     }
-    if let Some(at) = lost_at(table, 12 + 16 * outside.len() as u64) {
+    if let Some(at) = lost_at(table, TABLE_FRONT + NAME_LEN * outside.len() as u64) {
         return Ok(Some(CabErr::Ref { at }));
     }
     match unnamed_at(alloc, table.rows, outside)? {

@@ -84,36 +84,20 @@ impl<'a> Cursor<'a> {
     pub fn u32(self) -> Result<(u32, Cursor<'a>), CabErr>
         ensures { Reads (λ x. (x.0, tail x.1)) result (number_at w32 (tail self.entry)) }
     {
-        if self.rest.len() < 4 {
-            return Err(self.short());
-        }
-        let (front, back) = self.rest.split_at(4);
-        Ok((
-            u32::from_le_bytes([front[0], front[1], front[2], front[3]]),
-            Cursor {
-                end: self.end,
-                rest: back,
-            },
-        ))
+        let (bytes, rest) = self.bytes(4)?;
+        let mut four = [0u8; 4];
+        four.copy_from_slice(bytes);
+        Ok((u32::from_le_bytes(four), rest))
     }
 
     #[tactic(auto, unfolding(crate::specs::Faults::number_at))]
     pub fn u64(self) -> Result<(u64, Cursor<'a>), CabErr>
         ensures { Reads (λ x. (x.0, tail x.1)) result (number_at w64 (tail self.entry)) }
     {
-        if self.rest.len() < 8 {
-            return Err(self.short());
-        }
-        let (front, back) = self.rest.split_at(8);
-        Ok((
-            u64::from_le_bytes([
-                front[0], front[1], front[2], front[3], front[4], front[5], front[6], front[7],
-            ]),
-            Cursor {
-                end: self.end,
-                rest: back,
-            },
-        ))
+        let (bytes, rest) = self.bytes(8)?;
+        let mut eight = [0u8; 8];
+        eight.copy_from_slice(bytes);
+        Ok((u64::from_le_bytes(eight), rest))
     }
 
     #[tactic(auto, unfolding(crate::specs::Faults::magic_at))]

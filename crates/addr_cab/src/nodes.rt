@@ -1,5 +1,5 @@
 // The two nodes of a bundle that hold a table and its data, told by their paths.
-ghost use Rattle.std.specs.Prelude.{◌≡◌, ◌+◌, ◌≤◌, ◌++◌, List, ℕ, length, codes, MatchOption, IfSome, IsTrue, ◌↔◌};
+ghost use Rattle.std.specs.Prelude.{◌≡◌, ◌+◌, ◌≤◌, ◌++◌, length, codes, MatchOption, IsTrue, ◌↔◌};
 ghost use Rattle.addr_base.specs.Ids.{Are16Bytes};
 ghost use Rattle.addr_base.specs.declared.ids.Digest.{Digest};
 ghost use Rattle.addr_unityfs.specs.Format.{node_bytes};
@@ -8,6 +8,7 @@ ghost use Rattle.addr_cab.specs.Spelling.{table_path, data_path};
 ghost use Rattle.addr_cab.specs.Format.{AreNodes};
 
 use addr_base::{Digest, parse_hex};
+use addr_fields::{after_word, is_same};
 use addr_unityfs::{Bundle, NodePlace};
 
 /// The bytes with which both paths begin.
@@ -22,27 +23,6 @@ pub struct Nodes<'a> {
     pub name: Digest,
     pub table: &'a NodePlace,
     pub content: &'a NodePlace,
-}
-
-fn is_same(a: &[u8], b: &[u8]) -> bool
-    ensures { IsTrue result ↔ (a.now ≡ b.now) }
-{
-    a == b
-}
-
-/// What stands behind the word, where the text begins with it.
-fn after_word<'a>(text: &'a [u8], word: &[u8]) -> Option<&'a [u8]>
-    ensures found { MatchOption result ((rest : List ℕ) → text.now ≡ word.now ++ rest → ⊥) (λ rest. text.now ≡ word.now ++ rest.now) }
-    ensures only { IfSome result (λ rest. (other : List ℕ) → text.now ≡ word.now ++ other → other ≡ rest.now) }
-{
-    if text.len() < word.len() {
-        return None;
-    }
-    if is_same(&text[..word.len()], word) {
-        Some(&text[word.len()..])
-    } else {
-        None
-    }
 }
 
 /// The internal name in the path of a table.

@@ -22,7 +22,7 @@ use Rattle.addr_catalog.specs.Catalogue.{locator_read}
 use Rattle.addr_catalog.specs.Entries.{keys_holding, asset_keys, asset_row, asset_with, asset_unless, asset_read}
 use Rattle.addr_catalog.specs.ReadsAlike.{HasDistinctKeys, ReadsBackAlike}
 use Rattle.addr_catalog.specs.Steps.{read_each}
-use Rattle.addr_catalog.specs.Written.{table_keys, table_entries, table_rows, row_numbers, lists_of, row_ids, row_kinds, bundle_kind, bundle_entry, asset_entry, primary_of, each_numbered, HasOptions}
+use Rattle.addr_catalog.specs.Written.{table_keys, table_entries, table_rows, row_key_numbers, lists_of, row_ids, row_kinds, bundle_kind, bundle_entry, asset_entry, primary_of, each_numbered, HasOptions}
 use Rattle.addr_catalog.proofs.RowLemmas.{sound_rows, count_rows, IsNumbered}
 use Rattle.addr_catalog.proofs.ReadKeyLemmas.{each_at, keys_alike, first_alike_key}
 use Rattle.addr_catalog.proofs.ReadBundleLemmas.{each_as, each_last, whole, asset_id, bundles_back, somes_first, somes_last, bundle_nos, number_below, number_behind}
@@ -103,7 +103,7 @@ says_same r i n a are keyed at is =
     let some = keys_of_row a.keys (all_pass (λ (a : AssetRow). nat_lt 0 (length a.keys)) r.assets i a keyed is) in
     let k = some.0 in
     let ks = some.1 in
-    let within : n < length (row_numbers r) = omega (arith, at, count_rows r, slice_get_within r.assets i a is) in
+    let within : n < length (row_key_numbers r) = omega (arith, at, count_rows r, slice_get_within r.assets i a is) in
     let small : k.0 < length r.keys = (subst (AllByRecursion (λ (k : KeyNo). k.0 < length r.keys)) some.2 sound.1).0 in
     let back = asset_keys (table_keys r) (primary_of r n) (keys_holding (table_rows r) n) in
     let own = map (λ (k : KeyNo). text_at r.keys k.0) a.keys in

@@ -25,9 +25,9 @@ use Rattle.addr_tables.specs.declared.rows.EntryRow.{EntryRow}
 use Rattle.addr_tables.specs.declared.rows.Rows.{Rows as TableRows}
 use Rattle.addr_catalog_json.specs.Written.{options_text}
 use Rattle.addr_catalog.specs.Inverted.{is_among, list_at, first_with, lists_with, AreNumbersBelow}
-use Rattle.addr_catalog.specs.Written.{table_texts, bundle_numbers, asset_numbers, row_numbers, dep_numbers, is_several, dep_lists, table_keys, table_buckets, primary_of, dep_key, options_assembly, options_class, bundle_options, options_key, bundle_entry, asset_entry, each_numbered, table_entries, table_rows, row_ids, row_kinds, CanWrite}
+use Rattle.addr_catalog.specs.Written.{table_texts, bundle_key_numbers, asset_key_numbers, row_key_numbers, dep_numbers, is_several, dep_lists, table_keys, table_buckets, primary_of, dep_key, options_assembly, options_class, bundle_options, options_key, bundle_entry, asset_entry, each_numbered, table_entries, table_rows, row_ids, row_kinds, CanWrite}
 use Rattle.addr_catalog.proofs.GoodLemmas.{all-append, all-filter}
-use Rattle.addr_catalog.proofs.PlanLemmas.{count_keys, paired, few_keys}
+use Rattle.addr_catalog.proofs.KeyNumberLemmas.{count_keys, paired, few_keys}
 use Rattle.addr_catalog.proofs.FewLemmas.{twice-texts_once, few_from}
 use Rattle.addr_catalog.proofs.RowLemmas.{place_within, rows_within, count_rows, count_entries, few_rows, sound_rows, IsNumbered}
 
@@ -191,11 +191,11 @@ unfolding table_buckets dep_lists
 buckets_within r are can =
     let count = length (table_entries r) in
     let few = few_rows r (few_from r are can) in
-    let rows : length (row_numbers r) ≡ count = count_rows r ∙ sym (count_entries r) in
-    let front = subst (λ n. AllByRecursion (AreEntries n) (map (lists_with (row_numbers r)) (range_with_len 0 (length (table_texts r))))) rows (rows_with (row_numbers r) (range_with_len 0 (length (table_texts r))) (omega (arith, few, count_rows r))) in
+    let rows : length (row_key_numbers r) ≡ count = count_rows r ∙ sym (count_entries r) in
+    let front = subst (λ n. AllByRecursion (AreEntries n) (map (lists_with (row_key_numbers r)) (range_with_len 0 (length (table_texts r))))) rows (rows_with (row_key_numbers r) (range_with_len 0 (length (table_texts r))) (omega (arith, few, count_rows r))) in
     let deps = lists_within (length r.bundles) count r.assets (omega (arith, count_entries r)) (omega (arith, few, count_entries r)) (all_deps (length r.bundles) r.assets are.deps) in
     let lists = all-texts_once (AreEntries count) (filter is_several (map dep_numbers r.assets)) (all-filter (AreEntries count) is_several (map dep_numbers r.assets) deps) in
-    all-append (AreEntries count) (map (lists_with (row_numbers r)) (range_with_len 0 (length (table_texts r)))) (dep_lists r) front lists
+    all-append (AreEntries count) (map (lists_with (row_key_numbers r)) (range_with_len 0 (length (table_texts r)))) (dep_lists r) front lists
 
 -- ---- the numbers of entries
 
@@ -233,23 +233,23 @@ firsts_below bound [] n below filled less = absurd (omega (arith, less))
 firsts_below bound (ns ∷ lists) zero below filled less = first_below bound ns filled.0 below.0
 firsts_below bound (ns ∷ lists) (suc n) below filled less = firsts_below bound lists n below.1 filled.1 (omega (arith, less))
 
-bundles_filled : (texts : List (List ℕ)) (bundles : List BundleRow) → AllByRecursion IsFilled (map (bundle_numbers texts) bundles)
+bundles_filled : (texts : List (List ℕ)) (bundles : List BundleRow) → AllByRecursion IsFilled (map (bundle_key_numbers texts) bundles)
 bundles_filled texts [] = tt
 bundles_filled texts (b ∷ bundles) = (omega arith, bundles_filled texts bundles)
 
-assets_filled : (texts : List (List ℕ)) (r : Rows) (assets : List AssetRow) → list_all (λ a. nat_lt 0 (length a.keys)) assets ≡ true → AllByRecursion IsFilled (map (asset_numbers texts r) assets)
+assets_filled : (texts : List (List ℕ)) (r : Rows) (assets : List AssetRow) → list_all (λ a. nat_lt 0 (length a.keys)) assets ≡ true → AllByRecursion IsFilled (map (asset_key_numbers texts r) assets)
 assets_filled texts r [] keys = tt
 assets_filled texts r (a ∷ assets) keys =
     let both = and_parts (nat_lt 0 (length a.keys)) (list_all (λ (a : AssetRow). nat_lt 0 (length a.keys)) assets) keys in
-    let long : length (asset_numbers texts r a) ≡ length a.keys = length-map a.keys (λ (k : KeyNo). place_of texts (text_at r.keys k.0)) in
+    let long : length (asset_key_numbers texts r a) ≡ length a.keys = length-map a.keys (λ (k : KeyNo). place_of texts (text_at r.keys k.0)) in
     (omega (arith, ltb-true 0 (length a.keys) both.0, long), assets_filled texts r assets both.1)
 
 -- the primary key of each row is one of the texts
 primary_within : (r : Rows) (n : ℕ) → AreRows r → CanWrite r → n < length r.bundles + length r.assets → primary_of r n < length (table_texts r)
-unfolding primary_of row_numbers
+unfolding primary_of row_key_numbers
 primary_within r n are can less =
-    let filled = all-append IsFilled (map (bundle_numbers (table_texts r)) r.bundles) (map (asset_numbers (table_texts r) r) r.assets) (bundles_filled (table_texts r) r.bundles) (assets_filled (table_texts r) r r.assets can.keys) in
-    firsts_below (length (table_texts r)) (row_numbers r) n (rows_within r are) filled (omega (arith, less, count_rows r))
+    let filled = all-append IsFilled (map (bundle_key_numbers (table_texts r)) r.bundles) (map (asset_key_numbers (table_texts r) r) r.assets) (bundles_filled (table_texts r) r.bundles) (assets_filled (table_texts r) r r.assets can.keys) in
+    firsts_below (length (table_texts r)) (row_key_numbers r) n (rows_within r are) filled (omega (arith, less, count_rows r))
 
 -- a list of several dependencies is one of those that have a key
 list_there : (assets : List AssetRow) (i : ℕ) (a : AssetRow) → slice_get assets i ≡ Some a → is_several (dep_numbers a) ≡ true → list_any (λ u. bytes_eq u (dep_numbers a)) (filter is_several (map dep_numbers assets)) ≡ true
@@ -386,5 +386,5 @@ rows_can r are can = record {
   extra_small = can.extra_small;
 }
 
-pub can_encode : (r : Rows) (rows : TableRows) (internals kinds : ℕ) → rows ≡ table_rows r → internals ≡ length (row_ids r) → kinds ≡ length (row_kinds r) → AreRows r → CanWrite r → CanEncode rows internals 2 kinds
-can_encode r rows internals kinds same ids types are can = rw (same, ids, types) (rows_can r are can)
+pub can_encode : (r : Rows) (rows : TableRows) (internals providers kinds : ℕ) → rows ≡ table_rows r → internals ≡ length (row_ids r) → providers ≡ 2 → kinds ≡ length (row_kinds r) → AreRows r → CanWrite r → CanEncode rows internals providers kinds
+can_encode r rows internals providers kinds same ids two types are can = rw (same, ids, two, types) (rows_can r are can)

@@ -15,7 +15,7 @@ use Rattle.addr_tables.specs.declared.rows.EntryRow.{EntryRow}
 use Rattle.addr_keys.specs.declared.key.Key.{Key}
 use Rattle.addr_catalog.specs.Few.{AreFew}
 use Rattle.addr_catalog.specs.Written.{table_texts, table_keys, table_buckets, table_entries, CanWrite}
-use Rattle.addr_catalog.proofs.PlanLemmas.{count_keys, paired}
+use Rattle.addr_catalog.proofs.KeyNumberLemmas.{count_keys, paired}
 use Rattle.addr_catalog.proofs.RowLemmas.{count_entries}
 
 -- texts that are kept once stand once

@@ -7,7 +7,7 @@ pub mod SoundLemmas
 pub mod AssetLemmas
 pub mod GoodLemmas
 pub mod ListedLemmas
-pub mod PlanLemmas
+pub mod KeyNumberLemmas
 pub mod RowLemmas
 pub mod FewLemmas
 pub mod EncodeLemmas
@@ -17,3 +17,4 @@ pub mod ReadKeyLemmas
 pub mod ReadBundleLemmas
 pub mod ReadDepLemmas
 pub mod AlikeLemmas
+pub mod NamedLemmas

@@ -1,4 +1,4 @@
--- Lists kept once and the places that a map has for them, with one key more: for `number`.
+-- Lists kept once and the places that a map has for them, with one key more: for `Numbered::of`.
 use Rattle.std.proofs.Common.{ℕ, ◌≡◌, ◌+◌, Bool, true, false, cond, List, [], ◌∷◌, ◌++◌, length, map, position, take, drop, get_or, ◌<◌, ◌≤◌, length-append, Option, Some, None, is_some, BTreeMap, Ordering, nat_cmp, refl, sym, ap, ◌∙◌, arith}
 use Rattle.std.specs.BTreeMap.{get, is_at}
 use Rattle.std.specs.Cmp.Lexicographic.{slice_cmp}

@@ -13,11 +13,11 @@ use Rattle.addr_locate.proofs.TextLemmas.{same_texts, any-texts_once}
 use Rattle.addr_catalog.specs.Entries.{number_at, bundles_among, bundle_lists, dependencies}
 use Rattle.addr_catalog.specs.Inverted.{is_among, list_at, first_with, lists_with}
 use Rattle.addr_catalog.specs.ReadsAlike.{HasDistinctKeys}
-use Rattle.addr_catalog.specs.Written.{table_texts, row_numbers, dep_numbers, is_several, dep_lists, dep_key, table_buckets, table_rows}
+use Rattle.addr_catalog.specs.Written.{table_texts, row_key_numbers, dep_numbers, is_several, dep_lists, dep_key, table_buckets, table_rows}
 use Rattle.addr_catalog.proofs.AmongLemmas.{lone_in_range}
 use Rattle.addr_catalog.proofs.InvertedLemmas.{has}
 use Rattle.addr_catalog.proofs.RowLemmas.{place_within, count_rows}
-use Rattle.addr_catalog.proofs.ReadKeyLemmas.{there_is, mapped, mapped_there, text_found, bundle_key_there, bundle_row_numbers, bundle_primary, text_bucket, list_bucket}
+use Rattle.addr_catalog.proofs.ReadKeyLemmas.{there_is, mapped, mapped_there, text_found, bundle_key_there, bundle_row_key_numbers, bundle_primary, text_bucket, list_bucket}
 use Rattle.addr_catalog.proofs.ReadBundleLemmas.{bundle_nos, number_below, number_behind}
 
 -- ---- a bucket of dependencies
@@ -56,25 +56,25 @@ alone m k there = elim (or_cases (m == k) false there) [
 ]
 
 -- of the rows with a bundle's key no other one is a bundle
-no_other : (r : Rows) (d m : ℕ) (b : BundleRow) → HasDistinctKeys r → slice_get r.bundles d ≡ Some b → (m ≡ d → ⊥) → is_among (list_at (row_numbers r) m) (place_of (table_texts r) b.key) ≡ true → number_at (bundle_nos r) m ≡ None
+no_other : (r : Rows) (d m : ℕ) (b : BundleRow) → HasDistinctKeys r → slice_get r.bundles d ≡ Some b → (m ≡ d → ⊥) → is_among (list_at (row_key_numbers r) m) (place_of (table_texts r) b.key) ≡ true → number_at (bundle_nos r) m ≡ None
 no_other r d m b apart is other among = elim (cases_lt m (length r.bundles)) [
   | inr past ↦ number_behind r m past
   | inl below ↦
       let found = there_is r.bundles m below in
       let c = found.0 in
       let texts = table_texts r in
-      let same : place_of texts c.key ≡ place_of texts b.key = alone (place_of texts c.key) (place_of texts b.key) (ap (λ ns. is_among ns (place_of texts b.key)) (sym (bundle_row_numbers r m c found.1)) ∙ among) in
+      let same : place_of texts c.key ≡ place_of texts b.key = alone (place_of texts c.key) (place_of texts b.key) (ap (λ ns. is_among ns (place_of texts b.key)) (sym (bundle_row_key_numbers r m c found.1)) ∙ among) in
       let keys : c.key ≡ b.key = same_Some c.key b.key (sym (text_found texts c.key (bundle_key_there r m c found.1)) ∙ ap (slice_get texts) same ∙ text_found texts b.key (bundle_key_there r d b is)) in
       absurd (other (one_place r.bundles m d c b apart found.1 is keys))
 ]
 
-one_found : (r : Rows) (d : ℕ) (b : BundleRow) → HasDistinctKeys r → slice_get r.bundles d ≡ Some b → bundles_among (bundle_nos r) (lists_with (row_numbers r) (place_of (table_texts r) b.key)) ≡ record { 0 = d } ∷ []
+one_found : (r : Rows) (d : ℕ) (b : BundleRow) → HasDistinctKeys r → slice_get r.bundles d ≡ Some b → bundles_among (bundle_nos r) (lists_with (row_key_numbers r) (place_of (table_texts r) b.key)) ≡ record { 0 = d } ∷ []
 unfolding bundles_among first_with
 one_found r d b apart is =
     let k = place_of (table_texts r) b.key in
     let within = slice_get_within r.bundles d b is in
-    let own : is_among (list_at (row_numbers r) d) k ≡ true = ap (λ ns. is_among ns k) (bundle_row_numbers r d b is) ∙ or_left (k == k) false (eq-eqb k k refl) in
-    ap distinct (lone_in_range (number_at (bundle_nos r)) (has (row_numbers r) k) d (record { 0 = d }) 0 (length (row_numbers r)) (λ m other among. no_other r d m b apart is other among) own (number_below r d within) (omega arith) (omega (arith, within, count_rows r)))
+    let own : is_among (list_at (row_key_numbers r) d) k ≡ true = ap (λ ns. is_among ns k) (bundle_row_key_numbers r d b is) ∙ or_left (k == k) false (eq-eqb k k refl) in
+    ap distinct (lone_in_range (number_at (bundle_nos r)) (has (row_key_numbers r) k) d (record { 0 = d }) 0 (length (row_key_numbers r)) (λ m other among. no_other r d m b apart is other among) own (number_below r d within) (omega arith) (omega (arith, within, count_rows r)))
 
 -- ---- several dependencies
 
@@ -134,7 +134,7 @@ deps_by r (d ∷ []) apart some within once listed =
     let k = place_of (table_texts r) b.key in
     let low = place_within (table_texts r) b.key (bundle_key_there r d.0 b found.1) in
     ap (λ n. dependencies (bundle_lists (table_rows r) (bundle_nos r)) (Some n)) (bundle_primary r d.0 b found.1)
-    ∙ (from_bucket (bundle_nos r) (table_buckets r) k (lists_with (row_numbers r) k) (text_bucket r k low) ∙ one_found r d.0 b apart found.1)
+    ∙ (from_bucket (bundle_nos r) (table_buckets r) k (lists_with (row_key_numbers r) k) (text_bucket r k low) ∙ one_found r d.0 b apart found.1)
 deps_by r (d ∷ e ∷ ds) apart some within once listed =
     let ns = map (λ (b : BundleNo). b.0) (d ∷ e ∷ ds) in
     let at = list_bucket r (place_of (dep_lists r) ns) ns (text_found (dep_lists r) ns (listed (lt-ltb 1 (length ns) (omega arith)))) in

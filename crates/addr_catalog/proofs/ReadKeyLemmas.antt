@@ -17,7 +17,7 @@ use Rattle.addr_locate.proofs.NumberLemmas.{text_at-place_of}
 use Rattle.addr_locate.proofs.TextLemmas.{any-texts_once, text_is_itself}
 use Rattle.addr_catalog.specs.Entries.{key_text_at, keys_holding, with_first, asset_keys}
 use Rattle.addr_catalog.specs.Inverted.{is_among, list_at, first_with, lists_with}
-use Rattle.addr_catalog.specs.Written.{table_texts, bundle_numbers, asset_numbers, row_numbers, dep_lists, table_keys, table_buckets, primary_of, table_rows}
+use Rattle.addr_catalog.specs.Written.{table_texts, bundle_key_numbers, asset_key_numbers, row_key_numbers, dep_lists, table_keys, table_buckets, primary_of, table_rows}
 use Rattle.addr_catalog.proofs.AmongLemmas.{both_imply, any_found, found_number, among_kept, in_range, turned}
 use Rattle.addr_catalog.proofs.InvertedLemmas.{has}
 use Rattle.addr_catalog.proofs.RowLemmas.{place_within, text_there}
@@ -96,67 +96,67 @@ text_of_place r t there = key_text r (place_of (table_texts r) t) ∙ text_found
 
 -- ---- the numbers of a row's keys
 
-pub bundle_row_numbers : (r : Rows) (n : ℕ) (b : BundleRow) → slice_get r.bundles n ≡ Some b → list_at (row_numbers r) n ≡ place_of (table_texts r) b.key ∷ []
-unfolding row_numbers
-bundle_row_numbers r n b is =
-    let f = bundle_numbers (table_texts r) in
-    ap (λ o. unwrap_or o []) (in_front (map f r.bundles) (map (asset_numbers (table_texts r) r) r.assets) n (f b) (mapped f r.bundles n b is))
+pub bundle_row_key_numbers : (r : Rows) (n : ℕ) (b : BundleRow) → slice_get r.bundles n ≡ Some b → list_at (row_key_numbers r) n ≡ place_of (table_texts r) b.key ∷ []
+unfolding row_key_numbers
+bundle_row_key_numbers r n b is =
+    let f = bundle_key_numbers (table_texts r) in
+    ap (λ o. unwrap_or o []) (in_front (map f r.bundles) (map (asset_key_numbers (table_texts r) r) r.assets) n (f b) (mapped f r.bundles n b is))
 
-pub asset_row_numbers : (r : Rows) (i n : ℕ) (a : AssetRow) → n ≡ length r.bundles + i → slice_get r.assets i ≡ Some a → list_at (row_numbers r) n ≡ asset_numbers (table_texts r) r a
-unfolding row_numbers
-asset_row_numbers r i n a at is =
-    let f = bundle_numbers (table_texts r) in
-    let g = asset_numbers (table_texts r) r in
+pub asset_row_key_numbers : (r : Rows) (i n : ℕ) (a : AssetRow) → n ≡ length r.bundles + i → slice_get r.assets i ≡ Some a → list_at (row_key_numbers r) n ≡ asset_key_numbers (table_texts r) r a
+unfolding row_key_numbers
+asset_row_key_numbers r i n a at is =
+    let f = bundle_key_numbers (table_texts r) in
+    let g = asset_key_numbers (table_texts r) r in
     let long = length-map r.bundles f in
     ap (λ o. unwrap_or o []) (behind_all (map f r.bundles) (map g r.assets) n i (omega (arith, at, long)) ∙ mapped g r.assets i a is)
 
 pub bundle_primary : (r : Rows) (n : ℕ) (b : BundleRow) → slice_get r.bundles n ≡ Some b → primary_of r n ≡ place_of (table_texts r) b.key
 unfolding primary_of
-bundle_primary r n b is = ap (λ ns. unwrap_or (slice_get ns 0) 0) (bundle_row_numbers r n b is)
+bundle_primary r n b is = ap (λ ns. unwrap_or (slice_get ns 0) 0) (bundle_row_key_numbers r n b is)
 
 pub asset_primary : (r : Rows) (i n : ℕ) (a : AssetRow) (k : KeyNo) (ks : List KeyNo) → n ≡ length r.bundles + i → slice_get r.assets i ≡ Some a → a.keys ≡ k ∷ ks → primary_of r n ≡ place_of (table_texts r) (text_at r.keys k.0)
 unfolding primary_of
 asset_primary r i n a k ks at is keys =
-    ap (λ ns. unwrap_or (slice_get ns 0) 0) (asset_row_numbers r i n a at is) ∙ ap (λ (ls : List KeyNo). unwrap_or (slice_get (map (λ (l : KeyNo). place_of (table_texts r) (text_at r.keys l.0)) ls) 0) 0) keys
+    ap (λ ns. unwrap_or (slice_get ns 0) 0) (asset_row_key_numbers r i n a at is) ∙ ap (λ (ls : List KeyNo). unwrap_or (slice_get (map (λ (l : KeyNo). place_of (table_texts r) (text_at r.keys l.0)) ls) 0) 0) keys
 
 -- ---- buckets
 
-pub text_bucket : (r : Rows) (k : ℕ) → k < length (table_texts r) → slice_get (table_buckets r) k ≡ Some (lists_with (row_numbers r) k)
+pub text_bucket : (r : Rows) (k : ℕ) → k < length (table_texts r) → slice_get (table_buckets r) k ≡ Some (lists_with (row_key_numbers r) k)
 unfolding table_buckets
 text_bucket r k within =
-    in_front (map (lists_with (row_numbers r)) (range_with_len 0 (length (table_texts r)))) (dep_lists r) k (lists_with (row_numbers r) k) (made_there (lists_with (row_numbers r)) 0 (length (table_texts r)) k k (omega arith) within)
+    in_front (map (lists_with (row_key_numbers r)) (range_with_len 0 (length (table_texts r)))) (dep_lists r) k (lists_with (row_key_numbers r) k) (made_there (lists_with (row_key_numbers r)) 0 (length (table_texts r)) k k (omega arith) within)
 
 pub list_bucket : (r : Rows) (place : ℕ) (ns : List ℕ) → slice_get (dep_lists r) place ≡ Some ns → slice_get (table_buckets r) (length (table_texts r) + place) ≡ Some ns
 unfolding table_buckets
 list_bucket r place ns is =
     let texts = length (table_texts r) in
-    let long = length-map-range_with_len (lists_with (row_numbers r)) 0 texts in
-    behind_all (map (lists_with (row_numbers r)) (range_with_len 0 texts)) (dep_lists r) (texts + place) place (omega (arith, long)) ∙ is
+    let long = length-map-range_with_len (lists_with (row_key_numbers r)) 0 texts in
+    behind_all (map (lists_with (row_key_numbers r)) (range_with_len 0 texts)) (dep_lists r) (texts + place) place (omega (arith, long)) ∙ is
 
 -- ---- the keys whose buckets hold a row, those that pass a test which texts alone pass
 
-pub held_alike : (r : Rows) (n : ℕ) (test : ℕ → Bool) → n < length (row_numbers r) → ((k : ℕ) → test k ≡ true → k < length (table_texts r)) → list_any test (keys_holding (table_rows r) n) ≡ list_any test (list_at (row_numbers r) n)
+pub held_alike : (r : Rows) (n : ℕ) (test : ℕ → Bool) → n < length (row_key_numbers r) → ((k : ℕ) → test k ≡ true → k < length (table_texts r)) → list_any test (keys_holding (table_rows r) n) ≡ list_any test (list_at (row_key_numbers r) n)
 unfolding first_with
-held_alike r n test within texts = both_imply (list_any test (keys_holding (table_rows r) n)) (list_any test (list_at (row_numbers r) n)) up down
+held_alike r n test within texts = both_imply (list_any test (keys_holding (table_rows r) n)) (list_any test (list_at (row_key_numbers r) n)) up down
   where
     buckets : List (List ℕ)
     buckets = table_buckets r
 
-    same : (k : ℕ) → test k ≡ true → has buckets n k ≡ is_among (list_at (row_numbers r) n) k
-    same k passes = ap (λ o. is_among (unwrap_or o []) n) (text_bucket r k (texts k passes)) ∙ turned (row_numbers r) k n within
+    same : (k : ℕ) → test k ≡ true → has buckets n k ≡ is_among (list_at (row_key_numbers r) n) k
+    same k passes = ap (λ o. is_among (unwrap_or o []) n) (text_bucket r k (texts k passes)) ∙ turned (row_key_numbers r) k n within
 
-    up : list_any test (filter (has buckets n) (range_with_len 0 (length buckets))) ≡ true → list_any test (list_at (row_numbers r) n) ≡ true
+    up : list_any test (filter (has buckets n) (range_with_len 0 (length buckets))) ≡ true → list_any test (list_at (row_key_numbers r) n) ≡ true
     up there =
         let found = found_number test (filter (has buckets n) (range_with_len 0 (length buckets))) there in
         let k = found.0 in
         let kept = and_parts (is_among (range_with_len 0 (length buckets)) k) (has buckets n k) (sym (among_kept (has buckets n) (range_with_len 0 (length buckets)) k) ∙ found.1) in
-        any_found test (list_at (row_numbers r) n) k (sym (same k found.2) ∙ kept.1) found.2
+        any_found test (list_at (row_key_numbers r) n) k (sym (same k found.2) ∙ kept.1) found.2
 
-    down : list_any test (list_at (row_numbers r) n) ≡ true → list_any test (filter (has buckets n) (range_with_len 0 (length buckets))) ≡ true
+    down : list_any test (list_at (row_key_numbers r) n) ≡ true → list_any test (filter (has buckets n) (range_with_len 0 (length buckets))) ≡ true
     down there =
-        let found = found_number test (list_at (row_numbers r) n) there in
+        let found = found_number test (list_at (row_key_numbers r) n) there in
         let k = found.0 in
-        let small : k < length buckets = slice_get_within buckets k (lists_with (row_numbers r) k) (text_bucket r k (texts k found.2)) in
+        let small : k < length buckets = slice_get_within buckets k (lists_with (row_key_numbers r) k) (text_bucket r k (texts k found.2)) in
         let ranged = in_range 0 (length buckets) k (omega arith) (omega (arith, small)) in
         let kept = among_kept (has buckets n) (range_with_len 0 (length buckets)) k ∙ and_from (is_among (range_with_len 0 (length buckets)) k) (has buckets n k) ranged (same k found.2 ∙ found.1) in
         any_found test (filter (has buckets n) (range_with_len 0 (length buckets))) k kept found.2
@@ -218,25 +218,25 @@ numbers_alike r test (k ∷ ks) sound =
     rw (first, rest) refl
 
 -- the primary key is among those that are read
-primary_held : (r : Rows) (i n : ℕ) (a : AssetRow) (k : KeyNo) (ks : List KeyNo) → n < length (row_numbers r) → n ≡ length r.bundles + i → slice_get r.assets i ≡ Some a → a.keys ≡ k ∷ ks → k.0 < length r.keys → is_among (keys_holding (table_rows r) n) (primary_of r n) ≡ true
+primary_held : (r : Rows) (i n : ℕ) (a : AssetRow) (k : KeyNo) (ks : List KeyNo) → n < length (row_key_numbers r) → n ≡ length r.bundles + i → slice_get r.assets i ≡ Some a → a.keys ≡ k ∷ ks → k.0 < length r.keys → is_among (keys_holding (table_rows r) n) (primary_of r n) ≡ true
 primary_held r i n a k ks within at is keys small =
     let place = place_of (table_texts r) (text_at r.keys k.0) in
     let same = asset_primary r i n a k ks at is keys in
-    let first : list_at (row_numbers r) n ≡ place ∷ map (λ (l : KeyNo). place_of (table_texts r) (text_at r.keys l.0)) ks = asset_row_numbers r i n a at is ∙ ap (map (λ (l : KeyNo). place_of (table_texts r) (text_at r.keys l.0))) keys in
+    let first : list_at (row_key_numbers r) n ≡ place ∷ map (λ (l : KeyNo). place_of (table_texts r) (text_at r.keys l.0)) ks = asset_row_key_numbers r i n a at is ∙ ap (map (λ (l : KeyNo). place_of (table_texts r) (text_at r.keys l.0))) keys in
     let low = place_within (table_texts r) (text_at r.keys k.0) (asset_key_there r k.0 small) in
     held_alike r n (λ m. m == primary_of r n) within (λ m e. omega (arith, eqb-true m (primary_of r n) e, same, low))
     ∙ (ap (λ ns. is_among ns (primary_of r n)) first ∙ or_left (place == primary_of r n) _ (eq-eqb place (primary_of r n) (sym same)))
 
-pub keys_alike : (r : Rows) (i n : ℕ) (a : AssetRow) (k : KeyNo) (ks : List KeyNo) (test : List ℕ → Bool) → n < length (row_numbers r) → n ≡ length r.bundles + i → slice_get r.assets i ≡ Some a → a.keys ≡ k ∷ ks → AllByRecursion (λ (k : KeyNo). k.0 < length r.keys) a.keys → list_any test (asset_keys (table_keys r) (primary_of r n) (keys_holding (table_rows r) n)) ≡ list_any test (map (λ (k : KeyNo). text_at r.keys k.0) a.keys)
+pub keys_alike : (r : Rows) (i n : ℕ) (a : AssetRow) (k : KeyNo) (ks : List KeyNo) (test : List ℕ → Bool) → n < length (row_key_numbers r) → n ≡ length r.bundles + i → slice_get r.assets i ≡ Some a → a.keys ≡ k ∷ ks → AllByRecursion (λ (k : KeyNo). k.0 < length r.keys) a.keys → list_any test (asset_keys (table_keys r) (primary_of r n) (keys_holding (table_rows r) n)) ≡ list_any test (map (λ (k : KeyNo). text_at r.keys k.0) a.keys)
 unfolding asset_keys
 keys_alike r i n a k ks test within at is keys sound =
     let held = keys_holding (table_rows r) n in
     let f = key_text_at (table_keys r) in
     let small = (subst (AllByRecursion (λ (k : KeyNo). k.0 < length r.keys)) keys sound).0 in
     let there = primary_held r i n a k ks within at is keys small in
-    any_text test f (with_first (primary_of r n) held) ∙ (first_alike (λ m. passes test (f m)) (primary_of r n) held there ∙ (held_alike r n (λ m. passes test (f m)) within (texts_alone r test) ∙ (ap (list_any (λ m. passes test (f m))) (asset_row_numbers r i n a at is) ∙ numbers_alike r test a.keys sound)))
+    any_text test f (with_first (primary_of r n) held) ∙ (first_alike (λ m. passes test (f m)) (primary_of r n) held there ∙ (held_alike r n (λ m. passes test (f m)) within (texts_alone r test) ∙ (ap (list_any (λ m. passes test (f m))) (asset_row_key_numbers r i n a at is) ∙ numbers_alike r test a.keys sound)))
 
-pub first_alike_key : (r : Rows) (i n : ℕ) (a : AssetRow) (k : KeyNo) (ks : List KeyNo) → n < length (row_numbers r) → n ≡ length r.bundles + i → slice_get r.assets i ≡ Some a → a.keys ≡ k ∷ ks → k.0 < length r.keys → slice_get (asset_keys (table_keys r) (primary_of r n) (keys_holding (table_rows r) n)) 0 ≡ Some (text_at r.keys k.0)
+pub first_alike_key : (r : Rows) (i n : ℕ) (a : AssetRow) (k : KeyNo) (ks : List KeyNo) → n < length (row_key_numbers r) → n ≡ length r.bundles + i → slice_get r.assets i ≡ Some a → a.keys ≡ k ∷ ks → k.0 < length r.keys → slice_get (asset_keys (table_keys r) (primary_of r n) (keys_holding (table_rows r) n)) 0 ≡ Some (text_at r.keys k.0)
 unfolding asset_keys
 first_alike_key r i n a k ks within at is keys small =
     let held = keys_holding (table_rows r) n in

@@ -15,11 +15,11 @@ use Rattle.addr_locate.specs.Rows.{Rows, AreRows, text_at, place_of, numbered, w
 use Rattle.addr_locate.proofs.TextLemmas.{text_is_itself, any-texts_once}
 use Rattle.addr_locate.proofs.TextLemmas as texts
 use Rattle.addr_catalog.specs.Inverted.{AreNumbersBelow}
-use Rattle.addr_catalog.specs.Written.{table_texts, bundle_numbers, asset_numbers, row_numbers, dep_lists, table_entries, bundle_entry, asset_entry, each_numbered}
+use Rattle.addr_catalog.specs.Written.{table_texts, bundle_key_numbers, asset_key_numbers, row_key_numbers, dep_lists, table_entries, bundle_entry, asset_entry, each_numbered}
 use Rattle.addr_catalog.specs.Few.{AreFew}
 use Rattle.addr_tables.proofs.RowLemmas.{all_more}
 use Rattle.addr_tables.proofs.WrittenLemmas.{all_at}
-use Rattle.addr_catalog.proofs.PlanLemmas.{few_keys}
+use Rattle.addr_catalog.proofs.KeyNumberLemmas.{few_keys}
 
 or_true : (b : Bool) → (b || true) ≡ true
 or_true true = refl
@@ -91,11 +91,11 @@ key_within r (k ∷ ks) sound =
     let rest = key_within r ks sound.1 in
     grind (arith, nat_tests, first, rest)
 
-assets_within : (r : Rows) (assets : List AssetRow) → AllByRecursion (IsNumbered r.keys r.kinds) assets → AllByRecursion (AreNumbersBelow (length (table_texts r))) (map (asset_numbers (table_texts r) r) assets)
+assets_within : (r : Rows) (assets : List AssetRow) → AllByRecursion (IsNumbered r.keys r.kinds) assets → AllByRecursion (AreNumbersBelow (length (table_texts r))) (map (asset_key_numbers (table_texts r) r) assets)
 assets_within r [] sound = tt
 assets_within r (a ∷ assets) sound = (key_within r a.keys sound.0.1, assets_within r assets sound.1)
 
-bundles_within : (texts : List (List ℕ)) (bundles : List BundleRow) → ((t : List ℕ) → list_any (λ u. bytes_eq u t) (map (λ (b : BundleRow). b.key) bundles) ≡ true → list_any (λ u. bytes_eq u t) texts ≡ true) → AllByRecursion (AreNumbersBelow (length texts)) (map (bundle_numbers texts) bundles)
+bundles_within : (texts : List (List ℕ)) (bundles : List BundleRow) → ((t : List ℕ) → list_any (λ u. bytes_eq u t) (map (λ (b : BundleRow). b.key) bundles) ≡ true → list_any (λ u. bytes_eq u t) texts ≡ true) → AllByRecursion (AreNumbersBelow (length texts)) (map (bundle_key_numbers texts) bundles)
 bundles_within texts [] has = tt
 bundles_within texts (b ∷ bundles) has =
     let first = place_within texts b.key (has b.key (true_or (bytes_eq b.key b.key) (list_any (λ u. bytes_eq u b.key) (map (λ (b : BundleRow). b.key) bundles)) (text_is_itself b.key))) in
@@ -106,11 +106,11 @@ bundle_there : (r : Rows) (t : List ℕ) → list_any (λ u. bytes_eq u t) (map 
 unfolding table_texts
 bundle_there r t there = any-texts_once t (map (λ (b : BundleRow). b.key) r.bundles ++ r.keys) ∙ (list_any-append (λ u. bytes_eq u t) (map (λ (b : BundleRow). b.key) r.bundles) r.keys ∙ true_or (list_any (λ u. bytes_eq u t) (map (λ (b : BundleRow). b.key) r.bundles)) (list_any (λ u. bytes_eq u t) r.keys) there)
 
-pub rows_within : (r : Rows) → AreRows r → AllByRecursion (AreNumbersBelow (length (table_texts r))) (row_numbers r)
-unfolding row_numbers
-rows_within r are = both (map (bundle_numbers (table_texts r)) r.bundles) (bundles_within (table_texts r) r.bundles (bundle_there r))
+pub rows_within : (r : Rows) → AreRows r → AllByRecursion (AreNumbersBelow (length (table_texts r))) (row_key_numbers r)
+unfolding row_key_numbers
+rows_within r are = both (map (bundle_key_numbers (table_texts r)) r.bundles) (bundles_within (table_texts r) r.bundles (bundle_there r))
   where
-    both : (front : List (List ℕ)) → AllByRecursion (AreNumbersBelow (length (table_texts r))) front → AllByRecursion (AreNumbersBelow (length (table_texts r))) (front ++ map (asset_numbers (table_texts r) r) r.assets)
+    both : (front : List (List ℕ)) → AllByRecursion (AreNumbersBelow (length (table_texts r))) front → AllByRecursion (AreNumbersBelow (length (table_texts r))) (front ++ map (asset_key_numbers (table_texts r) r) r.assets)
     both [] each = assets_within r r.assets (sound_rows r are)
     both (ns ∷ front) each = (each.0, both front each.1)
 
@@ -126,12 +126,12 @@ count_entries r =
     let assets = length-each_numbered (asset_entry r) (length r.bundles) r.assets in
     length-append (each_numbered (bundle_entry r) 0 r.bundles) (each_numbered (asset_entry r) (length r.bundles) r.assets) ∙ rw (bundles, assets) refl
 
-pub count_rows : (r : Rows) → length (row_numbers r) ≡ length r.bundles + length r.assets
-unfolding row_numbers
+pub count_rows : (r : Rows) → length (row_key_numbers r) ≡ length r.bundles + length r.assets
+unfolding row_key_numbers
 count_rows r =
-    let bundles = length-map r.bundles (bundle_numbers (table_texts r)) in
-    let assets = length-map r.assets (asset_numbers (table_texts r) r) in
-    length-append (map (bundle_numbers (table_texts r)) r.bundles) (map (asset_numbers (table_texts r) r) r.assets) ∙ rw (bundles, assets) refl
+    let bundles = length-map r.bundles (bundle_key_numbers (table_texts r)) in
+    let assets = length-map r.assets (asset_key_numbers (table_texts r) r) in
+    length-append (map (bundle_key_numbers (table_texts r)) r.bundles) (map (asset_key_numbers (table_texts r) r) r.assets) ∙ rw (bundles, assets) refl
 
 pub few_rows : (r : Rows) → AreFew r → length r.bundles + length r.assets < 2 ^ 31
 few_rows r few = omega (arith, few)

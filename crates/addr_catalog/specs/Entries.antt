@@ -1,6 +1,6 @@
 -- Entries of a catalogue: which are bundles and which assets, by their providers, and the row that each stands for.
-use Rattle.std.specs.Prelude.{codes, ℕ, ◌==◌, ◌+◌, ◌&&◌, not, List, [], ◌∷◌, ◌++◌, length, map, filter, Bool, if◌then◌else◌, Option, Some, None, is_some, unwrap_or, option_and_then, Result, Ok, Err, slice_get}
-use Rattle.std.specs.List.{list_any, filter_map, range_with_len}
+use Rattle.std.specs.Prelude.{codes, ℕ, ◌==◌, ◌+◌, not, List, [], ◌∷◌, ◌++◌, map, filter, if◌then◌else◌, Option, Some, None, unwrap_or, option_and_then, Result, Ok, Err, slice_get}
+use Rattle.std.specs.List.{filter_map}
 use Rattle.std.specs.Option.{option_or}
 use Rattle.std.specs.Str.{bytes_eq}
 use Rattle.addr_base.specs.declared.ids.BundleNo.{BundleNo}

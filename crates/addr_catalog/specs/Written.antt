@@ -1,7 +1,6 @@
 -- What is written for a catalogue: its rows as the entries of tables, bundles before assets, and the tables in a document.
-use Rattle.std.specs.Prelude.{codes, ◌≡◌, ℕ, ◌==◌, ◌+◌, ◌<◌, ◌^◌, pos, nat_lt, List, [], ◌∷◌, ◌++◌, length, map, filter, Bool, IsTrue, if◌then◌else◌, Option, Some, None, unwrap_or, slice_get}
+use Rattle.std.specs.Prelude.{codes, ◌≡◌, ℕ, ◌==◌, ◌+◌, ◌<◌, ◌^◌, pos, nat_lt, List, [], ◌∷◌, ◌++◌, length, map, filter, Bool, IsTrue, if◌then◌else◌, Some, None, unwrap_or, slice_get}
 use Rattle.std.specs.List.{flat_map, list_all, range_with_len, enumerate_from}
-use Rattle.addr_base.specs.declared.ids.BundleNo.{BundleNo}
 use Rattle.addr_catalog_json.specs.Options.{options_read}
 use Rattle.addr_catalog_json.specs.Written.{document_text, options_text}
 use Rattle.addr_catalog_json.specs.declared.document.Document.{Document}
@@ -29,15 +28,15 @@ unfoldable pub table_texts : Rows → List (List ℕ)
 table_texts r = texts_once (map (λ b. b.key) r.bundles ++ r.keys)
 
 -- the numbers of a row's keys: that of a bundle's, and those of an asset's in the order of its row
-abbrev pub bundle_numbers : List (List ℕ) → BundleRow → List ℕ
-bundle_numbers texts b = place_of texts b.key ∷ []
+abbrev pub bundle_key_numbers : List (List ℕ) → BundleRow → List ℕ
+bundle_key_numbers texts b = place_of texts b.key ∷ []
 
-abbrev pub asset_numbers : List (List ℕ) → Rows → AssetRow → List ℕ
-asset_numbers texts r a = map (λ k. place_of texts (text_at r.keys k.0)) a.keys
+abbrev pub asset_key_numbers : List (List ℕ) → Rows → AssetRow → List ℕ
+asset_key_numbers texts r a = map (λ k. place_of texts (text_at r.keys k.0)) a.keys
 
 -- the numbers of each row's keys
-unfoldable pub row_numbers : Rows → List (List ℕ)
-row_numbers r = map (bundle_numbers (table_texts r)) r.bundles ++ map (asset_numbers (table_texts r) r) r.assets
+unfoldable pub row_key_numbers : Rows → List (List ℕ)
+row_key_numbers r = map (bundle_key_numbers (table_texts r)) r.bundles ++ map (asset_key_numbers (table_texts r) r) r.assets
 
 -- the numbers of the bundles that an asset depends on
 abbrev pub dep_numbers : AssetRow → List ℕ
@@ -56,13 +55,13 @@ table_keys r = map Text (table_texts r) ++ map (λ n. I32 (pos (n + 1))) (range_
 
 -- for a text the rows that have it, ascending; for a list of dependencies its bundles in their order
 unfoldable pub table_buckets : Rows → List (List ℕ)
-table_buckets r = map (lists_with (row_numbers r)) (range_with_len 0 (length (table_texts r))) ++ dep_lists r
+table_buckets r = map (lists_with (row_key_numbers r)) (range_with_len 0 (length (table_texts r))) ++ dep_lists r
 
 -- ---- entries
 
 -- the number of the primary key of a row: its first one
 unfoldable pub primary_of : Rows → ℕ → ℕ
-primary_of r n = unwrap_or (slice_get (list_at (row_numbers r) n) 0) 0
+primary_of r n = unwrap_or (slice_get (list_at (row_key_numbers r) n) 0) 0
 
 -- the key whose bucket holds some dependencies: that of the bundle where there is one, and else that of the list
 unfoldable pub dep_key : Rows → List ℕ → ℕ

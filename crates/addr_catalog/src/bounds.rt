@@ -5,9 +5,9 @@ ghost use Rattle.addr_catalog.specs.Few.{AreFew};
 ghost use Rattle.addr_catalog.specs.Written.{table_rows, CanWrite};
 ghost use Rattle.addr_tables.specs.Sizes.{AreSmall};
 
-use crate::plan::{Plan, all_deps};
+use crate::key_numbers::{KeyNumbers, all_deps};
 use crate::written_rows::table_rows;
-use addr_base::{KeyNo, NoMemory};
+use addr_base::NoMemory;
 use addr_locate::{AssetRow, Locator};
 use addr_tables::are_small;
 use std::alloc::Global;
@@ -21,24 +21,11 @@ fn have_keys(assets: &[AssetRow]) -> bool
     assets.iter().all(|asset| asset.keys.len() > 0)
 }
 
-/// How many keys the assets have, each counted once.
-fn key_count(locator: &Locator) -> usize
-    ensures count { result ≡ length locator.now.keys }
-    ensures few { result < 2 ^ 32 }
-{
-    locator.are_rows();
-    let mut key = 0;
-    while locator.key_text(KeyNo(key)).is_some() {
-        key += 1;
-    }
-    key as usize
-}
-
 fn are_few(locator: &Locator) -> bool
     ensures { IsTrue result ↔ AreFew locator.now }
 {
     let rows = locator.bundles().len() + locator.assets().len();
-    rows + key_count(locator) < TOO_MANY
+    rows.saturating_add(locator.keys().len()) < TOO_MANY
 }
 
 fn have_small_tables(alloc: Global, locator: &Locator) -> Result<bool, NoMemory>
@@ -46,8 +33,8 @@ fn have_small_tables(alloc: Global, locator: &Locator) -> Result<bool, NoMemory>
     ensures { IfOk result (λ yes. IsTrue yes ↔ AreSmall (table_rows locator.now)) }
 {
     let deps = all_deps(alloc, locator.assets())?;
-    let plan = Plan::of(alloc, locator, &deps)?;
-    let rows = table_rows(alloc, &plan)?;
+    let numbers = KeyNumbers::of(alloc, locator, &deps)?;
+    let rows = table_rows(alloc, &numbers)?;
     Ok(are_small(&rows))
 }
 

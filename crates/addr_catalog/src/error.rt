@@ -16,7 +16,7 @@ pub enum CatErr {
     Json,
     /// A member is absent, of another kind or outside its values. The numbers are those of docs/formats/catalogue.md.
     Member { which: u8 },
-    /// The four tables have no rows.
+    /// The four tables can't be read: their first fault.
     Table(TableErr),
     /// The entry's provider is that of neither bundles nor assets.
     Provider { entry: u32 },

@@ -13,11 +13,11 @@ mod entry_rows;
 mod error;
 mod internal_ids;
 mod inverted;
+mod key_numbers;
 mod keys;
 mod laws;
 mod listed;
 mod numbering;
-mod plan;
 mod reader;
 mod roles;
 #[cfg(test)]

@@ -1,7 +1,8 @@
 // A catalogue from its bytes: the document, the rows of its tables, all entries as bundles, and then all entries as assets.
 // The order of the walks is the order of the faults.
-ghost use Rattle.std.specs.Prelude.{◌≡◌, ◌<◌, ◌^◌, ◌-◌, List, map, min, length, IfOk, Ok};
+ghost use Rattle.std.specs.Prelude.{◌≡◌, ◌≢◌, ◌<◌, ◌^◌, ◌-◌, List, map, min, length, IfOk, Ok, Err};
 ghost use Rattle.std.specs.List.{range_with_len};
+ghost use Rattle.addr_catalog.specs.declared.error.CatErr.TheVariants as faults;
 ghost use Rattle.addr_catalog.specs.Catalogue.{somes, locator_read, catalogue_read};
 ghost use Rattle.addr_catalog.specs.Tables.{tables_of};
 ghost use Rattle.addr_catalog_json.specs.Document.{document_read};
@@ -127,10 +128,8 @@ fn read_locator(alloc: Global, lists: &Lists, rows: &Rows) -> Result<Locator, Ca
     Ok(of_rows(alloc, bundle_rows, asset_rows)?)
 }
 
-/// Reads a catalogue (docs/formats/catalogue.md). Time and memory are linear in the size of the bytes and of the rows, but
-/// for the ordered maps and sets in which keys and dependencies are looked up.
 #[tactic(auto, unfolding(crate::specs::Catalogue::catalogue_read))]
-pub fn read_catalog(alloc: Global, bytes: &[u8]) -> Result<Catalogue, CatErr>
+fn read(alloc: Global, bytes: &[u8]) -> Result<Catalogue, CatErr>
     ensures { Gives (λ catalogue. catalogue) result (catalogue_read bytes.now) }
 {
     let Document {
@@ -141,4 +140,17 @@ pub fn read_catalog(alloc: Global, bytes: &[u8]) -> Result<Catalogue, CatErr>
     let rows = read_tables(alloc, strings, &lists)?;
     let locator = read_locator(alloc, &lists, &rows)?;
     Ok(Catalogue { locator, state })
+}
+
+/// Reads a catalogue (docs/formats/catalogue.md). Linear in the size of the bytes, of the rows of the tables (`decode` copies
+/// each key and extra object, which may overlap or be shared: at worst their number times the table's length; a shared text
+/// of options is parsed again for each bundle) and of the rows, but for the ordered maps and sets in which keys and
+/// dependencies are looked up.
+pub fn read_catalog(alloc: Global, bytes: &[u8]) -> Result<Catalogue, CatErr>
+    // Unless memory was refused, the answer is what the bytes are read as: their catalogue or its first fault.
+    ensures exact { Gives (λ catalogue. catalogue) result (catalogue_read bytes.now) }
+    // No fault is want of memory.
+    ensures named { catalogue_read bytes.now ≢ Err faults.NoMemory }
+{
+    read(alloc, bytes)
 }

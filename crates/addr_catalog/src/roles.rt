@@ -2,6 +2,14 @@
 ghost use Rattle.std.specs.Prelude.{◌≡◌};
 ghost use Rattle.addr_catalog.specs.Entries.{role_of};
 
+/// The id of the provider of bundles.
+pub const BUNDLE_PROVIDER: &str =
+    "UnityEngine.ResourceManagement.ResourceProviders.AssetBundleProvider";
+
+/// The id of the provider of the assets in bundles.
+pub const ASSET_PROVIDER: &str =
+    "UnityEngine.ResourceManagement.ResourceProviders.BundledAssetProvider";
+
 #[derive(Clone, Copy, Debug, PartialEq, Eq)]
 pub enum Role {
     Bundle,
@@ -13,9 +21,9 @@ pub enum Role {
 pub fn role_of(provider: &str) -> Option<Role>
     ensures { result ≡ role_of provider.now }
 {
-    if provider == "UnityEngine.ResourceManagement.ResourceProviders.AssetBundleProvider" {
+    if provider == BUNDLE_PROVIDER {
         Some(Role::Bundle)
-    } else if provider == "UnityEngine.ResourceManagement.ResourceProviders.BundledAssetProvider" {
+    } else if provider == ASSET_PROVIDER {
         Some(Role::Asset)
     } else {
         None

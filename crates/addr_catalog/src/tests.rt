@@ -1,9 +1,11 @@
 // The text of a small catalogue, which was made by another program: proofs say that the text that is written is that of the
-// definitions, and this that they are the format's; and that each call succeeds with ample memory.
+// definitions, and what is read of it what they say, and these that they are the format's; small texts with a fault each; and
+// that each call succeeds with ample memory.
 ghost use Rattle.std.specs.Prelude.{◌≡◌, [], ◌∷◌, IfOk};
 
 use super::*;
-use addr_base::{BundleNo, Digest, Items, NoMemory, Text};
+use crate::roles::{ASSET_PROVIDER, BUNDLE_PROVIDER};
+use addr_base::{BundleNo, Digest, Items, KeyNo, NoMemory, Text};
 use addr_locate::{BundleRow, Locator, PlainAsset, of_rows};
 use std::alloc::Global;
 use std::test::*;
@@ -84,5 +86,87 @@ fn written(alloc: Global) -> Result<Option<Vec<u8>>, NoMemory> {
 fn the_example_is_written(rt: HostRuntime) -> Result<(), Fail> {
     let text = written(rt.alloc()).ok().ok_or("memory")?;
     assert!(rt; text.is_some_and(|text| text.as_slice() == WRITTEN.as_bytes()));
+    Ok(())
+}
+
+/// Whether the rows are those of the example, by the parts that are told by few words.
+fn are_the_rows(locator: &Locator) -> bool {
+    let (bundles, assets) = (locator.bundles(), locator.assets());
+    if bundles.len() != 2 || assets.len() != 2 {
+        return false;
+    }
+    let deps = assets[1].deps.as_slice() == [BundleNo(1), BundleNo(0)].as_slice();
+    let bundle = bundles[1].size == 4294967296 && bundles[1].id.as_str() == "local/second";
+    deps && bundle && locator.key_text(KeyNo(2)) == Some("bush")
+}
+
+#[test]
+fn the_example_is_read(rt: HostRuntime) -> Result<(), Fail> {
+    let catalogue = read_catalog(rt.alloc(), WRITTEN.as_bytes())
+        .ok()
+        .ok_or("catalogue")?;
+    assert!(rt; are_the_rows(&catalogue.locator));
+    assert!(rt; catalogue.state == Some(Digest([0; 16])));
+    Ok(())
+}
+
+/// A catalogue of one entry with one key, with neither extra data nor dependencies, around the id of its provider.
+const BEFORE: &str = r#"{"m_ProviderIds":[""#;
+
+const BEHIND: &str =
+    r#""],"m_InternalIds":["x"],"m_KeyDataString":"AQAAAAAEAAAAdHJlZQ==","m_BucketDataString":"AQAAAAQAAAABAAAAAAAAAA==","m_EntryDataString":"AQAAAAAAAAAAAAAA/////wAAAAD/////AAAAAAAAAAA=","m_ExtraDataString":"","m_resourceTypes":[{"m_ClassName":"Mesh"}]}"#;
+
+/// A catalogue whose tables are empty texts.
+const NO_TABLES: &str =
+    r#"{"m_ProviderIds":[],"m_InternalIds":[],"m_KeyDataString":"","m_BucketDataString":"","m_EntryDataString":"","m_ExtraDataString":"","m_resourceTypes":[]}"#;
+
+fn with_provider(alloc: Global, provider: &str) -> Result<String, NoMemory> {
+    let mut text = String::from_str(alloc, BEFORE)?;
+    text.push_str(provider)?;
+    text.push_str(BEHIND)?;
+    Ok(text)
+}
+
+fn fault_with(alloc: Global, provider: &str) -> Result<Option<CatErr>, NoMemory> {
+    let text = with_provider(alloc, provider)?;
+    Ok(read_catalog(alloc, text.as_bytes()).err())
+}
+
+#[test]
+fn faults_come_at_their_places(rt: HostRuntime) -> Result<(), Fail> {
+    let tables = read_catalog(rt.alloc(), NO_TABLES.as_bytes()).err();
+    assert!(rt; tables.is_some_and(|fault| fault.number() == 3));
+    let bundle = fault_with(rt.alloc(), BUNDLE_PROVIDER)
+        .ok()
+        .ok_or("memory")?;
+    assert!(rt; matches!(bundle, Some(CatErr::Options { entry: 0 })));
+    let asset = fault_with(rt.alloc(), ASSET_PROVIDER).ok().ok_or("memory")?;
+    assert!(rt; matches!(asset, Some(CatErr::Depends { entry: 0 })));
+    Ok(())
+}
+
+/// A bundle and an asset of it that has no key.
+fn keyless(alloc: Global) -> Result<Locator, NoMemory> {
+    let mut bundles = Vec::new(alloc);
+    bundles.push(bundle(alloc, "a", 1, "a", "a")?)?;
+    let mut assets = Vec::new(alloc);
+    assets.push(PlainAsset {
+        id: Text::copy_of(alloc, "x")?,
+        kind: Text::copy_of(alloc, "Mesh")?,
+        deps: Items::copy_of(alloc, &[BundleNo(0)])?,
+        keys: Items::new(alloc),
+    })?;
+    of_rows(alloc, bundles, assets)
+}
+
+fn keyless_can_be_written(alloc: Global) -> Result<bool, NoMemory> {
+    let locator = keyless(alloc)?;
+    can_write(alloc, &locator)
+}
+
+#[test]
+fn an_asset_without_a_key_cannot_be_written(rt: HostRuntime) -> Result<(), Fail> {
+    let yes = keyless_can_be_written(rt.alloc()).ok().ok_or("memory")?;
+    assert!(rt; !yes);
     Ok(())
 }

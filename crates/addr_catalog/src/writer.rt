@@ -9,28 +9,26 @@ ghost use Rattle.addr_catalog.specs.Written.{table_rows, tables_written, row_ids
 ghost use Rattle.addr_tables.specs.Faults.{rows_read};
 
 use crate::catalogue::Catalogue;
+use crate::key_numbers::{KeyNumbers, all_deps};
 use crate::laws::written_rows_read_back;
-use crate::plan::{Plan, all_deps};
+use crate::roles::{ASSET_PROVIDER, BUNDLE_PROVIDER};
 use crate::written_rows::table_rows;
-use addr_base::{Items, NoMemory, Text, TypeNo};
+use addr_base::{Items, NoMemory, Text};
 use addr_catalog_json::{Document, Lists, Strings, write_document};
 use addr_locate::Locator;
 use addr_tables::{Tables, encode};
 use std::alloc::Global;
+
+/// The type of the entries of bundles.
+const BUNDLE_TYPE: &str = "UnityEngine.ResourceManagement.ResourceProviders.IAssetBundleResource";
 
 /// The ids of the providers of bundles and of assets.
 fn provider_ids(alloc: Global) -> Result<Items<Text>, NoMemory>
     ensures { IfOk result (λ ids. ids ≡ bundle_provider ∷ asset_provider ∷ []) }
 {
     let mut ids = Items::new(alloc);
-    ids.push(Text::copy_of(
-        alloc,
-        "UnityEngine.ResourceManagement.ResourceProviders.AssetBundleProvider",
-    )?)?;
-    ids.push(Text::copy_of(
-        alloc,
-        "UnityEngine.ResourceManagement.ResourceProviders.BundledAssetProvider",
-    )?)?;
+    ids.push(Text::copy_of(alloc, BUNDLE_PROVIDER)?)?;
+    ids.push(Text::copy_of(alloc, ASSET_PROVIDER)?)?;
     Ok(ids)
 }
 
@@ -52,11 +50,8 @@ fn row_ids(alloc: Global, locator: &Locator) -> Result<Items<Text>, NoMemory>
 fn push_kinds(alloc: Global, locator: &Locator, kinds: &mut Items<Text>) -> Result<(), NoMemory>
     ensures { OnOk result (kinds.new ≡ kinds.old ++ locator.now.kinds) }
 {
-    locator.are_rows();
-    let mut kind = 0;
-    while let Some(text) = locator.type_text(TypeNo(kind)) {
-        kinds.push(Text::copy_of(alloc, text)?)?;
-        kind += 1;
+    for kind in locator.kinds() {
+        kinds.push(Text::copy_of(alloc, kind.as_str())?)?;
     }
     Ok(())
 }
@@ -70,10 +65,7 @@ fn row_kinds(alloc: Global, locator: &Locator, rows: usize) -> Result<Items<Text
     if rows == 0 {
         return Ok(kinds);
     }
-    kinds.push(Text::copy_of(
-        alloc,
-        "UnityEngine.ResourceManagement.ResourceProviders.IAssetBundleResource",
-    )?)?;
+    kinds.push(Text::copy_of(alloc, BUNDLE_TYPE)?)?;
     push_kinds(alloc, locator, &mut kinds)?;
     Ok(kinds)
 }
@@ -103,11 +95,12 @@ fn tables_of(alloc: Global, locator: &Locator, lists: &Lists) -> Result<Tables, 
 {
     locator.are_rows();
     let deps = all_deps(alloc, locator.assets())?;
-    let plan = Plan::of(alloc, locator, &deps)?;
-    let rows = table_rows(alloc, &plan)?;
+    let numbers = KeyNumbers::of(alloc, locator, &deps)?;
+    let rows = table_rows(alloc, &numbers)?;
     let internals = lists.internals.len() as u32;
+    let providers = lists.providers.len() as u32;
     let kinds = lists.kinds.len() as u32;
-    let tables = encode(alloc, &rows, internals, 2, kinds)?;
+    let tables = encode(alloc, &rows, internals, providers, kinds)?;
     Ok(tables)
 }
 

@@ -10,7 +10,7 @@ use Rattle.addr_catalog_json.specs.declared.document.Document.{Document}
 use Rattle.addr_catalog_json.specs.declared.document.Strings.{Strings}
 use Rattle.addr_catalog_json.specs.declared.error.DocErr.{DocErr}
 use Rattle.addr_catalog_json.specs.declared.error.DocErr.TheVariants.{Json, Member}
-use Rattle.addr_catalog_json.specs.Members.{required, optional, list_of, digest_of}
+use Rattle.addr_catalog_json.specs.Members.{required, optional, list_of, digest_in}
 use Rattle.addr_catalog_json.specs.Steps.{◌>>=◌, or_fault}
 
 -- the value of bytes in JSON, where they are UTF-8
@@ -25,7 +25,7 @@ abbrev pub kind_of : Data → Option (List ℕ)
 kind_of d = option_and_then as_str (get (codes "m_ClassName") d)
 
 abbrev pub state_of : Data → Option (Option Digest)
-state_of d = option_map Some (digest_of d)
+state_of d = option_map Some (digest_in d)
 
 -- the texts of the four tables
 unfoldable pub strings_read : Members → Result Strings DocErr

@@ -46,9 +46,9 @@ digest_of_bytes (Err fault) = None
 abbrev pub digest_from : List ℕ → Option Digest
 digest_from text = if list_all is_lower_digit text then digest_of_bytes (decode_sized text 16) else None
 
-abbrev pub digest_of : Data → Option Digest
-digest_of (string text) = digest_from text
-digest_of _ = None
+abbrev pub digest_in : Data → Option Digest
+digest_in (string text) = digest_from text
+digest_in _ = None
 
 -- the digest whose bytes are all 0
 abbrev pub zero_digest : Digest
@@ -57,7 +57,7 @@ zero_digest = record { 0 = replicate 16 0 }
 -- the digest of a bundle: that of its digits, or the zero digest where the text is empty
 abbrev pub hash_of : Data → Option Digest
 hash_of (string []) = Some zero_digest
-hash_of d = digest_of d
+hash_of d = digest_in d
 
 -- a whole number below 2 to the 64th
 abbrev pub size_of : Data → Option ℕ

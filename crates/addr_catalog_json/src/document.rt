@@ -1,5 +1,5 @@
 // The document of a catalogue, and its members in the order of their numbers.
-ghost use Rattle.std.specs.Prelude.{◌≡◌, [], codes, IfOk, Some, None};
+ghost use Rattle.std.specs.Prelude.{◌≡◌, ◌≢◌, [], codes, IfOk, Err, Some, None};
 ghost use Rattle.std.specs.Option.{option_map, option_copied};
 ghost use Rattle.serde_json.specs.Find.{as_str, as_object};
 ghost use Rattle.serde_json.specs.View.{view, items_view, members_view};
@@ -202,7 +202,10 @@ fn read_members(alloc: Global, tree: &Value) -> Result<Document, DocErr>
 /// Reads the document of a catalogue (docs/formats/catalogue.md).
 #[tactic(auto, unfolding(crate::specs::Document::document_read))]
 pub fn read_document(alloc: Global, bytes: &[u8]) -> Result<Document, DocErr>
-    ensures { Gives (λ document. document) result (document_read bytes.now) }
+    // Unless memory was refused, the answer is what the bytes are read as: their document or its first fault.
+    ensures exact { Gives (λ document. document) result (document_read bytes.now) }
+    // No fault is want of memory.
+    ensures named { document_read bytes.now ≢ Err faults.NoMemory }
 {
     let tree = read_tree(alloc, bytes)?;
     read_members(alloc, &tree)

@@ -5,7 +5,7 @@ ghost use Rattle.std.specs.List.{list_all};
 ghost use Rattle.std.specs.Option.{option_map, option_copied};
 ghost use Rattle.serde_json.specs.Find.{get_member, get, as_str, as_object};
 ghost use Rattle.serde_json.specs.View.{view, items_view, members_view};
-ghost use Rattle.addr_catalog_json.specs.Members.{all_items, list_of, required, is_lower_digit, digest_from, digest_of, hash_of, size_of};
+ghost use Rattle.addr_catalog_json.specs.Members.{all_items, list_of, required, is_lower_digit, digest_from, digest_in, hash_of, size_of};
 
 use addr_base::{Digest, Items, NoMemory, Text};
 use hex::FromHex;
@@ -78,7 +78,7 @@ fn is_lower_digit(b: u8) -> bool
 }
 
 pub fn as_digest(value: &Value) -> Option<Digest>
-    ensures { result ≡ digest_of (view value.now) }
+    ensures { result ≡ digest_in (view value.now) }
 {
     match value.as_str() {
         Some(text) => parse_digest(text),

@@ -21,7 +21,7 @@ has_rows files name bytes r reads at = elim reads [
 
 pub rows_read : (name bytes : List ℕ) (old new : Store) (read : Result Rows Refusal) → IfSome old.files (λ files. file_at name files ≡ Some bytes) → ReadsFile name bytes read → ReadsRowsFile name old new read
 rows_read name bytes old new (Ok r) there reads = told old.files (λ files at. has_rows files name bytes r reads at) there
-rows_read name bytes old new (Err (BadCatalogue n)) there reads = told old.files (λ files at. (reads.0, (bytes, at, reads.1.0, reads.1.1, reads.1.2, reads.1.3))) there
+rows_read name bytes old new (Err (BadCatalogue n)) there reads = told old.files (λ files at. (reads.0, (bytes, at, reads.1.0, reads.1.1, reads.1.2))) there
 rows_read name bytes old new (Err (BadRows n)) there reads = told old.files (λ files at. (reads.0, (bytes, at, reads.1))) there
 rows_read name bytes old new (Err NoMemory) there reads = tt
 rows_read name bytes old new (Err Usage) there reads = absurd reads

@@ -35,7 +35,7 @@ one_text name files bytes other here there = let same : Some bytes ≡ Some othe
 no_fault : (files : List MemFile) (name : List ℕ) (c : Catalogue) (n : ℕ) → HasCatalogue files name c → IsBadCatalogue files name n → ⊥
 no_fault files name c n has bad =
     let R : List ℕ → Type 0 = λ b. catalogue_read b ≡ Err bad.2 in
-    let read = sym has.read ∙ subst R (one_text name files has.bytes bad.0 has.file bad.1) bad.4 in
+    let read = sym has.read ∙ subst R (one_text name files has.bytes bad.0 has.file bad.1) bad.3 in
     absurd (cc read)
 
 -- a file in the plain form has no bad line

@@ -1,5 +1,5 @@
 -- What a file of rows is read as: its bytes by its name, and the file where its depot tells its files.
-use Rattle.std.specs.Prelude.{ℕ, ◌≡◌, ◌≢◌, ◌⊎◌, List, None, Result, Ok, Err, IfSome}
+use Rattle.std.specs.Prelude.{ℕ, ◌≡◌, ◌⊎◌, List, None, Result, Ok, Err, IfSome}
 use Rattle.addr_base.specs.Faults.{Rose}
 use Rattle.addr_base.specs.Files.{file_at}
 use Rattle.addr_base.specs.Tokens.{token_of}
@@ -7,7 +7,6 @@ use Rattle.addr_catalog.specs.Catalogue.{catalogue_read}
 use Rattle.addr_catalog.specs.Numbers.{error_number}
 use Rattle.addr_catalog.specs.declared.catalogue.Catalogue.{Catalogue}
 use Rattle.addr_catalog.specs.declared.error.CatErr.{CatErr}
-use Rattle.addr_catalog.specs.declared.error.CatErr.TheVariants.{NoMemory as CatNoFault}
 use Rattle.addr_locate.specs.PlainRows.{ReadsRows}
 use Rattle.addr_locate.specs.Rows.{Rows}
 use Rattle.addr_locate.specs.declared.error.RowsErr.TheVariants.{Line as RowsLine}
@@ -20,7 +19,7 @@ use Rattle.addr_cli.specs.declared.refusal.Refusal.TheVariants.{NoMemory, Depot,
 abbrev pub ReadsCatalogue : List ℕ → Result Catalogue Refusal → Type 0
 ReadsCatalogue bytes (Ok c) = catalogue_read bytes ≡ Ok c
 ReadsCatalogue bytes (Err NoMemory) = Unit {0}
-ReadsCatalogue bytes (Err (BadCatalogue n)) = (fault : CatErr) × (fault ≢ CatNoFault) × (catalogue_read bytes ≡ Err fault) × (n ≡ error_number fault)
+ReadsCatalogue bytes (Err (BadCatalogue n)) = (fault : CatErr) × (catalogue_read bytes ≡ Err fault) × (n ≡ error_number fault)
 ReadsCatalogue bytes (Err _) = ⊥
 
 -- the bytes of a file with that name are read as rows

@@ -24,7 +24,6 @@ use Rattle.addr_catalog.specs.Catalogue.{catalogue_read}
 use Rattle.addr_catalog.specs.Numbers.{error_number}
 use Rattle.addr_catalog.specs.declared.catalogue.Catalogue.{Catalogue}
 use Rattle.addr_catalog.specs.declared.error.CatErr.{CatErr}
-use Rattle.addr_catalog.specs.declared.error.CatErr.TheVariants.{NoMemory as CatNoFault}
 use Rattle.addr_locate.specs.PlainRows.{ReadsRows}
 use Rattle.addr_locate.specs.PlainText.{plain_text}
 use Rattle.addr_locate.specs.Rows.{Rows}
@@ -60,7 +59,7 @@ HasRows files name rows = (IsJsonName name × (c : Catalogue) × HasCatalogue fi
 
 -- the file is there and is no catalogue, by a first fault with that number; isn't in the plain form, the first bad line being n
 abbrev pub IsBadCatalogue : List MemFile → List ℕ → ℕ → Type 0
-IsBadCatalogue files name n = (bytes : List ℕ) × (file_at name files ≡ Some bytes) × (fault : CatErr) × (fault ≢ CatNoFault) × (catalogue_read bytes ≡ Err fault) × (n ≡ error_number fault)
+IsBadCatalogue files name n = (bytes : List ℕ) × (file_at name files ≡ Some bytes) × (fault : CatErr) × (catalogue_read bytes ≡ Err fault) × (n ≡ error_number fault)
 
 abbrev pub IsBadPlain : List MemFile → List ℕ → ℕ → Type 0
 IsBadPlain files name n = (bytes : List ℕ) × (file_at name files ≡ Some bytes) × ReadsRows bytes (Err (RowsLine n))
@@ -102,15 +101,15 @@ Inspects files file (Err (BadBundle token number)) = (bytes : List ℕ) × (file
 Inspects files file (Err _) = ⊥
 
 -- the most members, and the most dependencies, of all bundles of a plan together
-abbrev pub most : ℕ
-most = 4000000
+abbrev pub plan_limit : ℕ
+plan_limit = 4000000
 
 -- what a project is planned as: the text of its placement, or the first limit that is passed, with the whole count
 abbrev pub Planned : Project → Result (List ℕ) Refusal → Type 0
-Planned p (Ok text) = NamesFit p × (placement : Plan) × IsPlaced p placement × (m : ℕ) × IsMembersCount p placement m × (m ≤ most) × (d : ℕ) × IsDepsCount p placement d × (d ≤ most) × PlanText p placement text
+Planned p (Ok text) = NamesFit p × (placement : Plan) × IsPlaced p placement × (m : ℕ) × IsMembersCount p placement m × (m ≤ plan_limit) × (d : ℕ) × IsDepsCount p placement d × (d ≤ plan_limit) × PlanText p placement text
 Planned p (Err (TooLarge limit.BundleName n)) = (x : ℕ) × IsFirstLong p x n
-Planned p (Err (TooLarge limit.Members n)) = NamesFit p × (placement : Plan) × IsPlaced p placement × IsMembersCount p placement n × (most < n)
-Planned p (Err (TooLarge limit.Deps n)) = NamesFit p × (placement : Plan) × IsPlaced p placement × (m : ℕ) × IsMembersCount p placement m × (m ≤ most) × IsDepsCount p placement n × (most < n)
+Planned p (Err (TooLarge limit.Members n)) = NamesFit p × (placement : Plan) × IsPlaced p placement × IsMembersCount p placement n × (plan_limit < n)
+Planned p (Err (TooLarge limit.Deps n)) = NamesFit p × (placement : Plan) × IsPlaced p placement × (m : ℕ) × IsMembersCount p placement m × (m ≤ plan_limit) × IsDepsCount p placement n × (plan_limit < n)
 Planned p (Err NoMemory) = Unit {0}
 Planned p (Err _) = ⊥
 
@@ -126,8 +125,8 @@ pub record IsPlannable (files : List MemFile) (folder : List ℕ) : Type 0 where
   pub project : Project
   pub read : ProjectOf files folder project
   pub names : NamesFit project
-  pub members : (placement : Plan) (n : ℕ) → IsPlaced project placement → IsMembersCount project placement n → n ≤ most
-  pub deps : (placement : Plan) (n : ℕ) → IsPlaced project placement → IsDepsCount project placement n → n ≤ most
+  pub members : (placement : Plan) (n : ℕ) → IsPlaced project placement → IsMembersCount project placement n → n ≤ plan_limit
+  pub deps : (placement : Plan) (n : ℕ) → IsPlaced project placement → IsDepsCount project placement n → n ≤ plan_limit
 
 -- a depot at a moment: its files, where it tells them, and its count of faults; a sink: what it was given, and its count
 pub record Store : Type 0 where

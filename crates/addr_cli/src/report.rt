@@ -1,5 +1,6 @@
 // How a command's end is printed: its text, or the one line of its refusal, by one put.
 ghost use Rattle.std.specs.Prelude.{◌≡◌, ◌++◌, ◌∷◌, [], ◌⊎◌, IfOk, codes, string_bytes};
+ghost use Rattle.addr_base.specs.Faults.{one_more};
 ghost use Rattle.addr_cli.specs.Outcome.{Prints};
 ghost use Rattle.addr_cli.specs.Refusals.{ended_status, ended_text, refusal_text};
 
@@ -14,7 +15,8 @@ const MEMORY_LINE: &[u8] = b"error 1 memory\n";
 
 /// Prints the text of a command or the line of its refusal; where that line finds no memory, the one that says so.
 pub fn report<K: Sink>(alloc: Global, ended: Result<Text, Refusal>, out: &mut K) -> Status
-    ensures { Prints (ended_status ended) (ended_text ended) result.0 (record { written = K.written out.old; faults = K.faults out.old }) (record { written = K.written out.new; faults = K.faults out.new }) ⊎ Prints 1 (codes "error 1 memory" ++ 10 ∷ []) result.0 (record { written = K.written out.old; faults = K.faults out.old }) (record { written = K.written out.new; faults = K.faults out.new }) }
+    ensures prints { Prints (ended_status ended) (ended_text ended) result.0 (record { written = K.written out.old; faults = K.faults out.old }) (record { written = K.written out.new; faults = K.faults out.new }) ⊎ Prints 1 (codes "error 1 memory" ++ 10 ∷ []) result.0 (record { written = K.written out.old; faults = K.faults out.old }) (record { written = K.written out.new; faults = K.faults out.new }) }
+    ensures once { K.puts out.new ≡ one_more (K.puts out.old) }
 {
     match ended {
         Ok(text) => print(out, text.as_bytes(), Status::DONE),
@@ -27,7 +29,8 @@ pub fn report<K: Sink>(alloc: Global, ended: Result<Text, Refusal>, out: &mut K)
 
 /// Puts a whole text, whose status it answers unless the sink fails.
 fn print<K: Sink>(out: &mut K, text: &[u8], status: Status) -> Status
-    ensures { Prints status.0 text.now result.0 (record { written = K.written out.old; faults = K.faults out.old }) (record { written = K.written out.new; faults = K.faults out.new }) }
+    ensures prints { Prints status.0 text.now result.0 (record { written = K.written out.old; faults = K.faults out.old }) (record { written = K.written out.new; faults = K.faults out.new }) }
+    ensures once { K.puts out.new ≡ one_more (K.puts out.old) }
 {
     match out.put(text) {
         Ok(()) => status,

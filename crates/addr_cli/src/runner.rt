@@ -1,6 +1,6 @@
 // A command line from its words to its status. The rows are read and tested before the script.
 ghost use Rattle.std.specs.Prelude.{◌≡◌};
-ghost use Rattle.addr_base.specs.Faults.{Rose};
+ghost use Rattle.addr_base.specs.Faults.{Rose, one_more};
 ghost use Rattle.addr_cli.specs.Outcome.{CommandEnds, EndsWith, IsComplete, RunsTo};
 ghost use Rattle.addr_cli.specs.Words.{IsCommandLine, simulate};
 
@@ -20,6 +20,7 @@ use std::alloc::Global;
 /// Runs the command that the words are, over the depot's files, and prints to the sink by one put. Every file stays.
 pub fn run<D: Depot, K: Sink>(alloc: Global, words: &[Text], depot: &mut D, out: &mut K) -> Status
     ensures outcome { RunsTo words.now (record { files = D.files depot.old; faults = D.faults depot.old }) (record { files = D.files depot.new; faults = D.faults depot.new }) (record { written = K.written out.old; faults = K.faults out.old }) (record { written = K.written out.new; faults = K.faults out.new }) result.0 }
+    ensures one_put { K.puts out.new ≡ one_more (K.puts out.old) }
     ensures usage { IsCommandLine words.now → result.0 ≡ 2 → ⊥ }
     ensures depot_fault { result.0 ≡ 3 → Rose (D.faults depot.old) (D.faults depot.new) }
     ensures sink_fault { result.0 ≡ 13 → Rose (K.faults out.old) (K.faults out.new) }

@@ -2,17 +2,17 @@
 ghost use Rattle.std.specs.Prelude.{◌≡◌, ◌<◌, ◌^◌, [], IfOk, IfSome, OnOk, length, map, slice_get, unwrap_or};
 ghost use Rattle.std.specs.List.{AllByRecursion};
 ghost use Rattle.std.specs.Option.{option_map};
-ghost use Rattle.addr_history.specs.Answers.{load_adds, load_reply};
+ghost use Rattle.addr_history.specs.Answers.{count_reply, load_adds, load_reply, status_reply};
 ghost use Rattle.addr_core.specs.Machine.{grown};
 ghost use Rattle.addr_locate.specs.Rows.{key_of};
 ghost use Rattle.addr_script.specs.Commands.{IsCommand};
 ghost use Rattle.addr_script.specs.Scripts.{IsLimit};
-ghost use Rattle.addr_script.specs.declared.command.Command.TheVariants.{Done};
+ghost use Rattle.addr_script.specs.declared.command.Command.TheVariants.{Close, Done, Fail, Release};
 ghost use Rattle.addr_cli.specs.Outcome.{limit_of};
-ghost use Rattle.addr_cli.specs.SimText.{ask_of, asked_kind, key_token, load_answer, sim_text, Plays};
+ghost use Rattle.addr_cli.specs.SimText.{ask_of, asked_kind, count_answer, key_token, load_answer, sim_text, status_answer, Plays};
 
 use crate::sim_image::SimImage;
-use addr_base::{BundleNo, Items, KeyNo, NoMemory, Text, token};
+use addr_base::{BundleNo, Cause, Items, KeyNo, NoMemory, OpId, Text, token};
 use addr_core::{Ask, Core, LoadErr};
 use addr_locate::{Kind, Locator, Merge};
 use addr_script::{Command, Reply, Script};
@@ -62,29 +62,59 @@ fn play(alloc: Global, core: &mut Core<SimImage>, command: &Command) -> Result<R
             let ask = ask_of(alloc, core.locator(), *all, *mode, kind, keys)?;
             load(alloc, core, *caller, ask, keys)
         }
-        Command::Release { caller, op } => Ok(match core.release(*caller, *op) {
-            Ok(()) => Reply::Released,
-            Err(_) => Reply::NoHandle,
-        }),
-        Command::Status(op) => Ok(match core.status(*op) {
-            Ok(status) => Reply::Status(status),
-            Err(_) => Reply::NoHandle,
-        }),
-        Command::Count(b) => Ok(match core.count(*b) {
-            Some((count, state)) => Reply::Counted(count, state),
-            None => Reply::NoBundle,
-        }),
-        Command::Close => Ok(if core.close() {
-            Reply::NowClosed
-        } else {
-            Reply::Closed
-        }),
+        Command::Release { caller, op } => Ok(release(core, *caller, *op)),
+        Command::Status(op) => Ok(status(core, *op)),
+        Command::Count(b) => Ok(count(core, *b)),
+        Command::Close => Ok(close(core)),
         Command::Take { worker } => Ok(Reply::Next(core.take(*worker))),
         Command::Done { worker, b } => Ok(done(core, *worker, *b)),
-        Command::Fail { worker, b, cause } => Ok(match core.fail(*worker, *b, *cause) {
-            Ok(()) => Reply::Noted,
-            Err(_) => Reply::NotTaken,
-        }),
+        Command::Fail { worker, b, cause } => Ok(fail(core, *worker, *b, *cause)),
+    }
+}
+
+fn release(core: &mut Core<SimImage>, caller: u32, op: OpId) -> Reply
+    ensures { Plays core.old (Release caller op) result core.new }
+{
+    match core.release(caller, op) {
+        Ok(()) => Reply::Released,
+        Err(_) => Reply::NoHandle,
+    }
+}
+
+fn status(core: &Core<SimImage>, op: OpId) -> Reply
+    ensures { result ≡ status_answer (status_reply core.now.rows core.now.history op) }
+{
+    match core.status(op) {
+        Ok(status) => Reply::Status(status),
+        Err(_) => Reply::NoHandle,
+    }
+}
+
+fn count(core: &Core<SimImage>, b: BundleNo) -> Reply
+    ensures { result ≡ count_answer (count_reply core.now.rows core.now.history b) }
+{
+    match core.count(b) {
+        Some((count, state)) => Reply::Counted(count, state),
+        None => Reply::NoBundle,
+    }
+}
+
+fn close(core: &mut Core<SimImage>) -> Reply
+    ensures { Plays core.old Close result core.new }
+{
+    if core.close() {
+        Reply::NowClosed
+    } else {
+        Reply::Closed
+    }
+}
+
+fn fail(core: &mut Core<SimImage>, worker: u32, b: BundleNo, cause: Cause) -> Reply
+    ensures { Plays core.old (Fail worker b cause) result core.new }
+{
+    match core.fail(worker, b, cause) {
+        Ok(()) => Reply::Noted,
+        Err(_) => Reply::NotTaken,
     }
 }
 

@@ -3,7 +3,7 @@ ghost use Rattle.std.specs.Prelude.{◌≡◌, ◌+◌, ◌<◌, ◌≤◌, ◌^
 ghost use Rattle.addr_core.specs.Machine.{images_left};
 ghost use Rattle.addr_history.specs.Places.{is_resident};
 
-use crate::standing::Past;
+use crate::past::Past;
 use addr_base::{BundleNo, NoMemory};
 use std::alloc::Global;
 

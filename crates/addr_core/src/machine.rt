@@ -12,9 +12,8 @@ ghost use Rattle.addr_core.specs.Walk.{IsQuiet};
 ghost use Rattle.addr_core.specs.Machine.{Machine, fresh, grown, with_kept, Loads, HasImages, ImagesFit};
 
 use crate::images::{keep_resident, no_images, push_within, put};
-use crate::past::{is_closed, is_fetched_by, is_unreleased};
+use crate::past::{Past, is_closed, is_fetched_by, is_unreleased};
 use crate::prepare::prepare;
-use crate::standing::Past;
 use addr_base::{BundleNo, Cause, Image, Items, NoMemory, OpId};
 use addr_history::{Ask, BundleState, Event, LoadErr, Next, NoHandle, NotTaken, OpStatus, Settled};
 use addr_locate::Locator;

@@ -5,10 +5,22 @@ ghost use Rattle.addr_history.specs.Events.{is_load_of, is_end_of, is_take_by};
 ghost use Rattle.addr_history.specs.Counts.{is_closed, has_release, is_unreleased, open_count};
 ghost use Rattle.addr_history.specs.Places.{is_fetched_by, is_resident, is_absent};
 ghost use Rattle.addr_history.specs.Status.{since_load, first_failure, status_among, status_of};
+ghost use Rattle.addr_core.specs.Walk.{Known};
 
-use crate::standing::{Past, Standing, counted, is_among, needs_at};
-use addr_base::{BundleNo, OpId};
-use addr_history::{BundleState, Event, OpStatus};
+use crate::standing::{counted, is_among, needs_at};
+use addr_base::{BundleNo, Items, OpId};
+use addr_history::{Event, OpStatus};
+use addr_locate::Locator;
+
+/// The journal, and beside it the bundles of each operation by its number, so that no question takes memory.
+#[derive(Drop)]
+pub struct Past<'a> {
+    pub locator: &'a Locator,
+    pub limit: u32,
+    pub events: &'a [Event],
+    pub needs: &'a [Items<BundleNo>],
+    ghost known: { Known locator.now limit events.now needs.now },
+}
 
 fn has_load(events: &[Event], op: OpId) -> bool
     ensures { result ≡ list_any (is_load_of op) events.now }

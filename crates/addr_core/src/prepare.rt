@@ -3,20 +3,24 @@ ghost use Rattle.std.specs.Prelude.{◌≡◌, ◌+◌, ◌<◌, ◌^◌, not, n
 ghost use Rattle.std.specs.List.{list_any, position};
 ghost use Rattle.addr_locate.specs.Merge.{is_match, merged};
 ghost use Rattle.addr_history.specs.Events.{needs_of};
-ghost use Rattle.addr_history.specs.Answers.{is_none, first_missing};
+ghost use Rattle.addr_history.specs.Answers.{first_missing};
 ghost use Rattle.addr_core.specs.Prepare.{Prepares};
 
-use crate::past::is_closed;
-use crate::standing::Past;
+use crate::past::{Past, is_closed};
 use addr_base::{BundleNo, Items, KeyNo, NoMemory, RowNo};
 use addr_history::{Ask, LoadErr};
 use addr_locate::{AssetRow, Kind, Locator, is_match};
 use std::alloc::Global;
 
+/// Whether a row of the asked kind has the key; a key that no row has needs no walk.
+#[tactic(auto, using(crate::proofs::Preparing::no_key_matches))]
 fn has_row(assets: &[AssetRow], kind: Kind, key: Option<KeyNo>) -> bool
     ensures { result ≡ list_any (is_match kind key) assets.now }
 {
-    assets.iter().any(|row| is_match(kind, key, row))
+    match key {
+        Some(_) => assets.iter().any(|row| is_match(kind, key, row)),
+        None => false,
+    }
 }
 
 fn missing_place(assets: &[AssetRow], keys: &[Option<KeyNo>], kind: Kind) -> Option<usize>
@@ -35,15 +39,6 @@ fn first_missing(locator: &Locator, ask: &Ask) -> Option<u32>
     match missing_place(locator.assets(), ask.keys.as_slice(), ask.kind) {
         Some(place) => Some(place as u32),
         None => None,
-    }
-}
-
-fn is_none(rows: &[RowNo]) -> bool
-    ensures { result ≡ is_none rows.now }
-{
-    match rows {
-        [] => true,
-        [_, ..] => false,
     }
 }
 
@@ -84,7 +79,7 @@ pub fn prepare(alloc: Global, past: &Past, ask: &Ask) -> Result<Items<BundleNo>,
     let found = past
         .locator
         .locate(alloc, ask.keys.as_slice(), ask.mode, ask.kind)?;
-    if is_none(found.as_slice()) {
+    if found.as_slice().is_empty() {
         return Err(LoadErr::NoLocation {
             first: first_missing(past.locator, ask),
         });

@@ -5,7 +5,8 @@ ghost use Rattle.addr_core.specs.Walk.{since_of, asked_at, is_place, earlier, Is
 ghost use Rattle.addr_history.specs.Places.{queue};
 ghost use Rattle.addr_history.specs.Events.{needs_of_event};
 
-use crate::standing::{Past, needs_at};
+use crate::past::Past;
+use crate::standing::needs_at;
 use addr_base::BundleNo;
 use addr_history::Event;
 

@@ -5,8 +5,8 @@ ghost use Rattle.addr_history.specs.Counts.{is_closed};
 ghost use Rattle.addr_history.specs.Places.{is_absent, is_queued, is_fetched, bundles_of};
 ghost use Rattle.addr_history.specs.Answers.{reserved};
 
-use crate::past::is_closed;
-use crate::standing::{Past, Standing};
+use crate::past::{Past, is_closed};
+use crate::standing::Standing;
 use addr_base::BundleNo;
 use addr_history::Event;
 

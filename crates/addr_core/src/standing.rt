@@ -2,11 +2,11 @@
 ghost use Rattle.std.specs.Prelude.{◌≡◌, ◌+◌, ◌<◌, ◌^◌, is_some, if◌then◌else◌};
 ghost use Rattle.addr_history.specs.declared.answers.BundleState.TheVariants.{Resident, Fetching, Queued, Absent};
 ghost use Rattle.addr_history.specs.Events.{is_in};
-ghost use Rattle.addr_core.specs.Walk.{needs_at, names, counted, stepped, start, waits_after, is_place, IsStanding, Known};
+ghost use Rattle.addr_core.specs.Walk.{needs_at, names, counted, stepped, start, waits_after, is_place, IsStanding};
 
+use crate::past::Past;
 use addr_base::{BundleNo, Items, OpId};
 use addr_history::{BundleState, Event};
-use addr_locate::Locator;
 
 /// A bundle's count, whether it is resident, whether it is being fetched, and since which place of the journal it is queued.
 #[derive(Clone, Copy)]
@@ -15,16 +15,6 @@ pub struct Standing {
     pub resident: bool,
     pub fetched: bool,
     pub since: Option<usize>,
-}
-
-/// The journal, and beside it the bundles of each operation by its number, so that no question takes memory.
-#[derive(Drop)]
-pub struct Past<'a> {
-    pub locator: &'a Locator,
-    pub limit: u32,
-    pub events: &'a [Event],
-    pub needs: &'a [Items<BundleNo>],
-    ghost known: { Known locator.now limit events.now needs.now },
 }
 
 pub fn is_among(b: BundleNo, bundles: &[BundleNo]) -> bool

@@ -6,7 +6,7 @@ use Rattle.addr_base.specs.declared.var.Var.{Var}
 use Rattle.addr_expansion.specs.declared.extent.Extent.{Extent}
 use Rattle.addr_expansion.specs.Expansion.{Outcome, bad, circular, given, filled, outcome_of, expanded, reply_to}
 use Rattle.addr_expansion.specs.Extents.{extent_of, extents, answer_of, IsExtent}
-use Rattle.addr_expansion.specs.Replies.{is_unknown, is_circular}
+use Rattle.addr_expansion.specs.Replies.{is_bad, is_circular}
 use Rattle.addr_expansion.proofs.ExpansionLemmas.{extent_is}
 
 given_reply : (t : List ℕ) (b : Bool) → nat_le (length t) 1024 ≡ b → answer_of (extent_of (given t)) ≡ reply_to (given t)
@@ -39,8 +39,8 @@ front-map test f (x ∷ xs) = ap (λ n. cond (not (test (f x))) (1 + n) 0) (fron
 pub position-map : {X Y : Type 0} (test : Y → Bool) (f : X → Y) (xs : List X) → position test (map f xs) ≡ position (λ x. test (f x)) xs
 position-map test f xs = (λ i. cond (nat_lt (front-map test f xs i) (length-map xs f i)) (Some (front-map test f xs i)) None)
 
-pub unknown_places : (es : List Extent) → position is_unknown (map answer_of es) ≡ position (λ e. is_unknown (answer_of e)) es
-unknown_places es = position-map is_unknown answer_of es
+pub bad_places : (es : List Extent) → position is_bad (map answer_of es) ≡ position (λ e. is_bad (answer_of e)) es
+bad_places es = position-map is_bad answer_of es
 
 pub circular_places : (es : List Extent) → position is_circular (map answer_of es) ≡ position (λ e. is_circular (answer_of e)) es
 circular_places es = position-map is_circular answer_of es

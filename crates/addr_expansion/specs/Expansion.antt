@@ -23,6 +23,7 @@ joined (given a) bad = bad
 joined (given a) circular = circular
 joined (given a) (given b) = given (a ++ b)
 
+-- a byte is `]`, which ends a name
 abbrev pub closes : ℕ → Bool
 closes b = b == 93
 
@@ -38,6 +39,7 @@ abbrev pub with_pieces : (List ℕ → Outcome) → List (List ℕ) → Outcome
 with_pieces at [] = given []
 with_pieces at (plain ∷ pieces) = fold (with_piece at) (given plain) pieces
 
+-- what stands between the `[` of a text
 abbrev pub pieces_of : List ℕ → List (List ℕ)
 pieces_of text = slice_split (λ b. b == 91) text
 
@@ -58,7 +60,7 @@ of_name vs lead name = of_value lead (value_of vs name)
 unfoldable pub filled : List Var → (List ℕ → Outcome) → List ℕ → Outcome
 filled vs lead text = with_pieces (of_name vs lead) (pieces_of text)
 
--- what a text leads to by walks of fewer names than n; a walk that is longer than all names are many meets one twice
+-- what a text leads to by walks of fewer names than n; a walk of more names than there are variables meets one twice
 unfoldable pub outcome_of : List Var → ℕ → List ℕ → Outcome
 outcome_of vs zero text = circular
 outcome_of vs (suc n) text = filled vs (outcome_of vs n) text
@@ -67,6 +69,7 @@ outcome_of vs (suc n) text = filled vs (outcome_of vs n) text
 abbrev pub end_of_lengths : ℕ
 end_of_lengths = 2 ^ 64 - 1
 
+-- the answer: a text of at most 1,024 bytes, or why there is none
 abbrev pub reply_to : Outcome → Result (List ℕ) ExpandErr
 reply_to bad = Err BadVariable
 reply_to circular = Err Cycle

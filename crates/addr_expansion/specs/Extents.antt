@@ -7,6 +7,7 @@ use Rattle.addr_expansion.specs.declared.extent.Extent.{Extent}
 use Rattle.addr_expansion.specs.declared.extent.Extent.TheVariants.{Bad, Circular, Whole, Long}
 use Rattle.addr_expansion.specs.Expansion.{Outcome, bad, circular, given, end_of_lengths}
 
+-- what is kept of an outcome
 abbrev pub extent_of : Outcome → Extent
 extent_of bad = Bad
 extent_of circular = Circular
@@ -23,6 +24,7 @@ IsExtent (Long n) o = (t : List ℕ) × (o ≡ given t) × (1024 < length t) × 
 abbrev pub extents : (List ℕ → Outcome) → List Var → List Extent
 extents lead vs = map (λ v. extent_of (lead v.value)) vs
 
+-- the answer that is kept
 abbrev pub answer_of : Extent → Result (List ℕ) ExpandErr
 answer_of Bad = Err BadVariable
 answer_of Circular = Err Cycle

@@ -5,10 +5,12 @@ use Rattle.addr_expansion.specs.declared.error.ExpandErr.{ExpandErr}
 use Rattle.addr_expansion.specs.declared.error.ExpandErr.TheVariants as expanding
 use Rattle.addr_expansion.specs.Expansion.{expanded}
 
-abbrev pub is_unknown : Result (List ℕ) ExpandErr → Bool
-is_unknown (Err expanding.BadVariable) = true
-is_unknown _ = false
+-- the text leads to an unknown name or an open bracket
+abbrev pub is_bad : Result (List ℕ) ExpandErr → Bool
+is_bad (Err expanding.BadVariable) = true
+is_bad _ = false
 
+-- it leads to a variable that leads to itself, and to nothing bad
 abbrev pub is_circular : Result (List ℕ) ExpandErr → Bool
 is_circular (Err expanding.Cycle) = true
 is_circular _ = false

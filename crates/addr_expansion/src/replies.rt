@@ -3,7 +3,7 @@ ghost use Rattle.std.specs.Prelude.{◌≡◌, map, IfOk};
 ghost use Rattle.std.specs.List.{position};
 ghost use Rattle.addr_expansion.specs.Expansion.{expanded};
 ghost use Rattle.addr_expansion.specs.Extents.{answer_of};
-ghost use Rattle.addr_expansion.specs.Replies.{is_unknown, is_circular, replies};
+ghost use Rattle.addr_expansion.specs.Replies.{is_bad, is_circular, replies};
 
 use crate::expansion::{fill, known, round};
 use crate::extent::Extent;
@@ -41,7 +41,7 @@ pub fn replies_of(
 }
 
 pub fn is_bad(reply: &Extent) -> bool
-    ensures { result ≡ is_unknown (answer_of reply.now) }
+    ensures { result ≡ is_bad (answer_of reply.now) }
 {
     match reply {
         Extent::Bad => true,
@@ -60,13 +60,13 @@ fn is_circular(reply: &Extent) -> bool
 
 /// The first value that leads to an unknown name or an open bracket.
 pub fn first_bad(values: &[Extent]) -> Option<usize>
-    ensures { result ≡ position is_unknown (map answer_of values.now) }
+    ensures { result ≡ position is_bad (map answer_of values.now) }
 {
     bad_place(values)
 }
 
 fn bad_place(values: &[Extent]) -> Option<usize>
-    ensures { result ≡ position (λ e. is_unknown (answer_of e)) values.now }
+    ensures { result ≡ position (λ e. is_bad (answer_of e)) values.now }
 {
     values.iter().position(|reply| is_bad(reply))
 }

@@ -2,14 +2,8 @@
 ghost use Rattle.std.specs.Prelude.{◌≡◌, ◌==◌, ◌++◌, ◌↔◌, ◌<◌, ℕ, List, MatchOption, IfSome, IsTrue, position, false, decimal};
 ghost use Rattle.addr_fields.specs.Fields.{has_byte, IsCut, IsNumber, IsNumberThen, IsWordNumber, IsWordPair};
 
+use addr_base::is_same;
 use itoa::Buffer;
-
-/// Whether two byte strings are equal.
-pub fn is_same(a: &[u8], b: &[u8]) -> bool
-    ensures { IsTrue result ↔ (a.now ≡ b.now) }
-{
-    a == b
-}
 
 /// What stands behind the word, where the text begins with it.
 pub fn after_word<'a>(text: &'a [u8], word: &[u8]) -> Option<&'a [u8]>

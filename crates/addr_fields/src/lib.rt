@@ -7,8 +7,9 @@
 mod fields;
 mod lines;
 
+pub use addr_base::is_same;
 pub use fields::{
-    after_word, cut_at, is_same, long_after, long_number, number, number_after, number_then,
-    short_after, short_number, two_numbers_after,
+    after_word, cut_at, long_after, long_number, number, number_after, number_then, short_after,
+    short_number, two_numbers_after,
 };
 pub use lines::next_line;

@@ -16,7 +16,7 @@ use Rattle.addr_history.specs.declared.event.Event.TheVariants.{Load, Release, T
 use Rattle.addr_history.specs.Events.{is_load, is_load_of, is_release_of}
 use Rattle.addr_history.specs.Counts.{is_closed, has_release, is_unreleased, loads_of}
 use Rattle.addr_history.specs.Places.{is_fetched_by}
-use Rattle.addr_history.specs.Answers.{reserved, needed, first_missing, is_none, load_reply, load_adds, release_adds, done_adds, fail_adds, close_adds}
+use Rattle.addr_history.specs.Answers.{reserved, needed, first_missing, has_no_row, load_reply, load_adds, release_adds, done_adds, fail_adds, close_adds}
 use Rattle.addr_history.specs.Legal.{IsAnswer, Legal}
 use Rattle.addr_history.proofs.Points.{list_any_push}
 
@@ -50,9 +50,9 @@ load_facts rows limit h op caller ask answer = by_closed (is_closed h) refl answ
     by_none true opened given = absurd (nothing_added _ given)
     by_none false opened given = by_room (ltb limit total) refl opened given
 
-    by_closed : (t : Bool) → is_closed h ≡ t → load_adds (if t then Err Closed else if is_none (merged rows.assets ask.keys ask.mode ask.kind) then Err (NoLocation (first_missing rows ask)) else if ltb limit total then Err full else Ok (record { 0 = loads_of h })) caller ask ≡ Load op caller ask ∷ [] → Loaded rows limit h op ask
+    by_closed : (t : Bool) → is_closed h ≡ t → load_adds (if t then Err Closed else if has_no_row (merged rows.assets ask.keys ask.mode ask.kind) then Err (NoLocation (first_missing rows ask)) else if ltb limit total then Err full else Ok (record { 0 = loads_of h })) caller ask ≡ Load op caller ask ∷ [] → Loaded rows limit h op ask
     by_closed true is given = absurd (nothing_added _ given)
-    by_closed false is given = by_none (is_none (merged rows.assets ask.keys ask.mode ask.kind)) is given
+    by_closed false is given = by_none (has_no_row (merged rows.assets ask.keys ask.mode ask.kind)) is given
 
 -- an event that is added on a test alone
 passed : (t : Bool) (e : Event) → (if t then e ∷ [] else []) ≡ e ∷ [] → t ≡ true

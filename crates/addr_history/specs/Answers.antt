@@ -39,15 +39,15 @@ unfoldable pub first_missing : Rows → Ask → Option ℕ
 first_missing rows ask = position (λ key. not (list_any (is_match ask.kind key) rows.assets)) ask.keys
 
 -- whether there is no row
-abbrev pub is_none : List RowNo → Bool
-is_none [] = true
-is_none (r ∷ rows) = false
+abbrev pub has_no_row : List RowNo → Bool
+has_no_row [] = true
+has_no_row (r ∷ rows) = false
 
 -- load: the number of the next operation
 unfoldable pub load_reply : Rows → ℕ → List Event → Ask → Result OpId LoadErr
 load_reply rows limit h ask =
     if is_closed h then Err Closed
-    else if is_none (merged rows.assets ask.keys ask.mode ask.kind) then Err (NoLocation (first_missing rows ask))
+    else if has_no_row (merged rows.assets ask.keys ask.mode ask.kind) then Err (NoLocation (first_missing rows ask))
     else if nat_lt limit (length h + reserved rows h + needed rows h ask) then Err (JournalFull (length h) (reserved rows h) (needed rows h ask))
     else Ok (record { 0 = loads_of h })
 

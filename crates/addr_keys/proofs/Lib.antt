@@ -3,7 +3,9 @@ pub mod Utf16Lemmas
 pub mod BodyLemmas
 pub mod FieldLemmas
 pub mod KeyLemmas
+pub mod NamedLemmas
 pub mod Growth
 pub mod UnitLemmas
 pub mod FormLemmas
 pub mod PlaceLemmas
+pub mod SizeLemmas

@@ -1,7 +1,6 @@
 // Why no key could be read: the first place that is wrong decides, from the left to the right.
 ghost use Rattle.std.specs.Prelude.{◌≡◌};
 ghost use Rattle.addr_keys.specs.declared.error.KeyErr.TheVariants as errors;
-ghost use Rattle.addr_keys.specs.Numbers.{error_number};
 
 use addr_base::NoMemory;
 use std::alloc::AllocError;
@@ -20,22 +19,6 @@ pub enum KeyErr {
     /// A length is below zero.
     Negative,
     NoMemory,
-}
-
-impl KeyErr {
-    /// The number by which programs print the fault; 0 for want of memory.
-    pub fn number(&self) -> u8
-        ensures { result ≡ error_number self.now }
-    {
-        match self {
-            KeyErr::NoMemory => 0,
-            KeyErr::Short => 1,
-            KeyErr::Kind(_) => 2,
-            KeyErr::NotAscii => 3,
-            KeyErr::Surrogate => 4,
-            KeyErr::Negative => 5,
-        }
-    }
 }
 
 impl From<NoMemory> for KeyErr {

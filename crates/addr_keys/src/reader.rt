@@ -1,8 +1,9 @@
 // Reading a key: each function takes a field off the front and gives the bytes after it, so that no field carries a place.
 // The place where a key ends is then the length of all bytes without those that are left.
-ghost use Rattle.std.specs.Prelude.{◌≡◌, ℕ, Ok, IfOk};
+ghost use Rattle.std.specs.Prelude.{◌≡◌, ◌≢◌, ◌↔◌, ℕ, Ok, Err, IfOk};
 ghost use Rattle.std.specs.Int.{w16, w32};
 ghost use Rattle.addr_keys.specs.declared.key.Key.{Key};
+ghost use Rattle.addr_keys.specs.declared.error.KeyErr.TheVariants.{NoMemory};
 ghost use Rattle.addr_keys.specs.Format.{KeyAt};
 ghost use Rattle.addr_keys.specs.Faults.{Gives, byte_at, number_at, length_at, body_at, short_at, ascii_at, utf16_at, json_at, body_of_kind, key_first, key_read};
 
@@ -153,6 +154,9 @@ pub fn read_key(alloc: Global, bytes: &[u8], at: usize) -> Result<(Key, usize), 
     ensures only { (key : Key) (end : ℕ) → KeyAt bytes.now at key end → Gives (λ x. x) result (Ok (key, end)) }
     // Which fault it is, where it is one.
     ensures exact { Gives (λ x. x) result (key_read bytes.now at) }
+    // So at each place stands one key or a first fault, and never both; and no fault is want of memory.
+    ensures named { key_read bytes.now at ≢ Err NoMemory }
+    ensures law { (key : Key) (end : ℕ) → (KeyAt bytes.now at key end ↔ (key_read bytes.now at ≡ Ok (key, end))) }
 {
     key_from(alloc, bytes, at)
 }

@@ -15,6 +15,7 @@ pub record Place : Type 0 where
   pub bundle : ℕ
   pub guid : Guid
 
+-- the place of an asset in a bundle
 abbrev pub place : ℕ → Guid → Place
 place b g = record { bundle = b; guid = g }
 

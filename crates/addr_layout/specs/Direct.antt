@@ -9,6 +9,7 @@ use Rattle.addr_walks.specs.Rows.{Edge}
 use Rattle.addr_layout.specs.declared.model.Layout.{Layout}
 use Rattle.addr_layout.specs.Needs.{Needs}
 
+-- what each bundle needs, by the numbers of bundles
 abbrev pub direct_lists : Layout → List (List ℕ)
 direct_lists layout = map (λ lay. lay.direct) layout.bundles
 

@@ -56,6 +56,7 @@ IsBundleOf p plan g (Some c) = HasEntry p plan c g
 abbrev pub is_free : List (Option ℕ) → ℕ → Bool
 is_free bundles r = is_none (slice_index_or bundles r None)
 
+-- the parts of the graph are those of the project and the placement
 pub record IsGraph (p : Project) (plan : Plan) (graph : Graph) : Type 0 where
   pub guids : AreGuids p graph.guids
   pub numbers : AreBeside graph.guids (λ g n. IsNumbered p n g) graph.numbers
@@ -75,13 +76,15 @@ pub record IsSized (graph : Graph) : Type 0 where
   pub within_below : AreBelow graph.within (length graph.guids)
   pub seeds_below : AreBelow graph.seeds (length graph.guids)
 
--- the number and the references at a rank, and the ranks of a bundle's entries
+-- the number at a rank
 abbrev pub number_at : Graph → ℕ → ℕ
 number_at graph r = slice_index_or graph.numbers r 0
 
+-- the references at a rank
 abbrev pub refs_at : Graph → ℕ → List ℕ
 refs_at graph r = slice_index_or graph.refs r []
 
+-- the ranks of a bundle's entries
 abbrev pub seeds_at : Graph → ℕ → List ℕ
 seeds_at graph b = slice_index_or graph.seeds b []
 

@@ -35,11 +35,13 @@ AreMembers p plan b members = IsListOf (by_guid p) (MemberNumber p plan b) membe
 abbrev pub AreHomes : Project → Plan → ℕ → ℕ → List RefHome → Type 0
 AreHomes p plan b n homes = (asset : Asset) × (slice_get p.assets n ≡ Some asset) × AllZip (IsHome p plan b) asset.refs homes
 
+-- a bundle has exactly its members, the homes of their references, and what it needs
 pub record IsFull (p : Project) (plan : Plan) (b : ℕ) (lay : LayBundle) : Type 0 where
   pub members : AreMembers p plan b lay.members
   pub refs : AllZip (AreHomes p plan b) lay.members lay.refs
   pub direct : IsListOf nat_cmp (Needs p plan b) lay.direct
 
+-- a bundle has empty lists
 abbrev pub IsBare : LayBundle → Type 0
 IsBare lay = (lay.members ≡ []) × (lay.refs ≡ []) × (lay.direct ≡ [])
 
@@ -47,6 +49,7 @@ IsBare lay = (lay.members ≡ []) × (lay.refs ≡ []) × (lay.direct ≡ [])
 abbrev pub IsLaid : Project → Plan → ℕ → LayBundle → Type 0
 IsLaid p plan b lay = (bundle : PlanBundle) × (slice_get plan.bundles b ≡ Some bundle) × MatchBool bundle.kept (IsBare lay) (IsFull p plan b lay)
 
+-- each bundle of the placement is laid out
 pub record IsLayout (p : Project) (plan : Plan) (layout : Layout) : Type 0 where
   pub as_many : length layout.bundles ≡ length plan.bundles
   pub laid : EachAt (IsLaid p plan) layout.bundles

@@ -1,6 +1,7 @@
 // Whole counts over all bundles, for limits that are tested before a layout or a dependency list is made.
-ghost use Rattle.std.specs.Prelude.{◌≡◌, ◌<◌, ◌≤◌, ◌^◌, length, IfOk};
+ghost use Rattle.std.specs.Prelude.{◌≡◌, ◌<◌, ◌-◌, ◌^◌, min, length, IfOk};
 ghost use Rattle.std.specs.Bool.{MatchBool};
+ghost use Rattle.std.specs.List.{sum_by};
 ghost use Rattle.addr_walks.specs.Rows.{AreBelow, IsSizeOf, LedTo};
 ghost use Rattle.addr_layout.specs.Counts.{IsDepsCount, IsMembersCount};
 ghost use Rattle.addr_layout.specs.Graph.{IsSized, seeds_at};
@@ -15,10 +16,6 @@ use addr_pack::Plan;
 use addr_project::Project;
 use addr_walks::Search;
 use std::alloc::Global;
-
-/// The most numbers that rows of what bundles need may ever have together. It bounds memory alone: the count is the same over
-/// either kind of rows. Each number in them is a dependency, so longer rows are those of a plan with as many of these.
-const MOST_DIRECT: usize = 4_000_000;
 
 /// How many members the bundles of a placement have together; a kept bundle counts none.
 pub fn members_count(alloc: Global, project: &Project, plan: &Plan) -> Result<u64, NoMemory>
@@ -64,7 +61,9 @@ pub fn deps_count(alloc: Global, project: &Project, plan: &Plan) -> Result<u64, 
     Ok(total)
 }
 
-/// Rows of what each bundle needs, or where these are too long, of links.
+/// Rows of what each bundle needs, where they have together no more numbers than there are references: a search over them then
+/// costs no more than it can over links. And else rows of links, which are the shorter ones where many bundles copy an asset with
+/// many references, since they have it once.
 fn need_rows(alloc: Global, project: &Project, plan: &Plan) -> Result<Items<Items<u32>>, NoMemory>
     requires few { length plan.now.bundles < 2 ^ 31 }
     requires shared { IsShared project.now plan.now }
@@ -73,7 +72,8 @@ fn need_rows(alloc: Global, project: &Project, plan: &Plan) -> Result<Items<Item
     project.kept();
     let graph = graph_of(alloc, project, plan)?;
     let mut search = Search::new(alloc, graph.guids.len())?;
-    match direct_within(alloc, &graph, &mut search, most_direct(&graph))? {
+    let most = total_length(graph.refs.as_slice());
+    match direct_within(alloc, &graph, &mut search, most)? {
         Some(direct) => Ok(direct),
         None => {
             let links = links_of(alloc, &graph)?;
@@ -82,16 +82,15 @@ fn need_rows(alloc: Global, project: &Project, plan: &Plan) -> Result<Items<Item
     }
 }
 
-/// As many numbers as there are references: over rows that are no longer a search costs no more than it can over links. Where
-/// many bundles copy an asset with many references, rows of links are the shorter ones, since they have it once.
-fn most_direct(graph: &Graph) -> usize
-    ensures { result ≤ 4000000 }
+/// How many numbers the rows have together; the count stands still at its type's end.
+fn total_length(rows: &[Items<u32>]) -> usize
+    ensures { result ≡ min (sum_by (λ row. length row) rows.now) (2 ^ 64 - 1) }
 {
-    let mut most: usize = 0;
-    for refs in graph.refs.as_slice().iter() {
-        most = most.saturating_add(refs.len()).min(MOST_DIRECT);
+    let mut total: usize = 0;
+    for row in rows.iter() {
+        total = total.saturating_add(row.len());
     }
-    most
+    total
 }
 
 /// The dependencies of all bundles, by one search a bundle over rows that lead as needs do.

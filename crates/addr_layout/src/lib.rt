@@ -2,7 +2,8 @@
 //!
 //! Promise: `layout` gives exactly the members, the homes and the needs of each bundle (`specs/Members.antt`,
 //! `specs/Needs.antt`, `specs/Layout.antt`); following references through bundles comes to exactly what the project reaches
-//! (`specs/Agreement.antt`); members and dependencies are counted without a layout (`specs/Counts.antt`). Units: assets and bundles are named by their places in the project's and the placement's lists.
+//! (`specs/Agreement.antt`); members and dependencies are counted without a layout (`specs/Counts.antt`).
+//! Units: assets and bundles are named by their places in the project's and the placement's lists.
 //! Start: `specs/Members.antt`, then `src/laying.rt`.
 #![tactic(auto)]
 

@@ -1,7 +1,8 @@
--- One more row, key or dependency, as at a step of a loop; and what every number and bundle that is found passes.
-use Rattle.std.proofs.Common.{append_assoc, zero, suc, ℕ, ◌≡◌, ◌==◌, ◌<◌, ◌≤◌, ◌+◌, ◌∙◌, Bool, true, false, not, ◌&&◌, ◌||◌, nat_lt, List, [], ◌∷◌, ◌++◌, length, get_or, take, drop, map, filter, refl, ap, sym, cond, arith, add-one, Option, slice_get, drop-cons}
+-- One more row or key, as at a step of a loop; and what every number and bundle that is found passes.
+use Rattle.std.proofs.Common.{zero, suc, ℕ, ◌≡◌, ◌==◌, ◌<◌, ◌≤◌, ◌+◌, ◌∙◌, Bool, true, false, not, ◌&&◌, ◌||◌, nat_lt, List, [], ◌∷◌, ◌++◌, length, get_or, take, drop, map, filter, refl, ap, sym, cond, arith, add-one, Option, Some, None, is_some, slice_get, drop-cons}
 use Rattle.std.specs.List.{list_any, list_all, enumerate_from, flat_map}
 use Rattle.std.specs.Option.{option_map_or}
+use Rattle.std.proofs.lemmas.Bool.{false≢true}
 use Rattle.std.proofs.lemmas.Bool.Decides.{nat_tests}
 use Rattle.std.proofs.lemmas.List.{append-nil, take_more, length-take-le, map-append}
 use Rattle.std.proofs.lemmas.List.Elements.{filter-append}
@@ -52,6 +53,15 @@ rows_where_put test rows i row found within is passes was = rw (rows_where_more 
 
 pub rows_where_pass : (test : AssetRow → Bool) (rows : List AssetRow) (i : ℕ) (row : AssetRow) (found : List RowNo) → i < length rows → row ≡ get_or rows i row → test row ≡ false → found ≡ rows_where test (take i rows) → found ≡ rows_where test (take (i + 1) rows)
 rows_where_pass test rows i row found within is fails was = rw (rows_where_more test rows i row within is, fails, was) (sym (append-nil (rows_where test (take i rows))))
+
+-- no row has a key that isn't in the catalogue
+filter-unknown : (kind : Kind) (n : ℕ) (rows : List AssetRow) → filter (λ (p : ℕ × AssetRow). is_match kind None p.1) (enumerate_from n rows) ≡ []
+filter-unknown kind n [] = refl
+filter-unknown kind n (row ∷ rows) = filter-unknown kind (n + 1) rows
+
+pub rows_where-unknown : (kind : Kind) (key : Option KeyNo) (rows : List AssetRow) → is_some key ≡ false → rows_where (is_match kind key) rows ≡ []
+rows_where-unknown kind None rows e = ap (map {B = RowNo} (λ (p : ℕ × AssetRow). record { 0 = p.0 })) (filter-unknown kind 0 rows)
+rows_where-unknown kind (Some key) rows e = absurd (false≢true (sym e))
 
 -- Keys
 
@@ -116,18 +126,6 @@ no_repeats-distinct (x ∷ xs) =
 pub all-distinct : (q : BundleNo → Bool) (xs : List BundleNo) → list_all q xs ≡ true → list_all q (distinct xs) ≡ true
 all-distinct q [] all = refl
 all-distinct q (x ∷ xs) all = let rest = all-filter q (λ c. not (c.0 == x.0)) (distinct xs) (all-distinct q xs (grind arith)) in grind (arith, rest)
-
--- one more dependency, put to what was found of those before it
-distinct_more : (seen deps found : List BundleNo) (i : ℕ) (d : BundleNo) → i < length deps → found ≡ distinct (seen ++ take i deps) → distinct (seen ++ take (i + 1) deps) ≡ found ++ cond (list_any (λ c. c.0 == (get_or deps i d).0) found) [] (get_or deps i d ∷ [])
-distinct_more seen deps found i d within was =
-    let grown : seen ++ take (i + 1) deps ≡ (seen ++ take i deps) ++ get_or deps i d ∷ [] = ap (λ t. seen ++ t) (take_more deps i d within) ∙ sym (append_assoc seen (take i deps) (get_or deps i d ∷ [])) in
-    rw (was, grown, any-distinct (get_or deps i d) (seen ++ take i deps)) (distinct-snoc (seen ++ take i deps) (get_or deps i d))
-
-pub distinct_put : (seen deps found : List BundleNo) (i : ℕ) (d : BundleNo) → i < length deps → list_any (λ c. c.0 == (get_or deps i d).0) found ≡ false → found ≡ distinct (seen ++ take i deps) → found ++ get_or deps i d ∷ [] ≡ distinct (seen ++ take (i + 1) deps)
-distinct_put seen deps found i d within new was = rw (distinct_more seen deps found i d within was, new)
-
-pub distinct_pass : (seen deps found : List BundleNo) (i : ℕ) (d : BundleNo) → i < length deps → list_any (λ c. c.0 == (get_or deps i d).0) found ≡ true → found ≡ distinct (seen ++ take i deps) → found ≡ distinct (seen ++ take (i + 1) deps)
-distinct_pass seen deps found i d within known was = rw (distinct_more seen deps found i d within was, known) (sym (append-nil found))
 
 -- What is found is in range
 

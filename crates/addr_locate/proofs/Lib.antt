@@ -1,3 +1,4 @@
+pub mod DistinctLemmas
 pub mod ElementLemmas
 pub mod EvaluatedLemmas
 pub mod FieldLemmas

@@ -14,7 +14,7 @@ use Rattle.addr_base.specs.declared.ids.BundleNo.{BundleNo}
 use Rattle.addr_base.proofs.HexLemmas.{spelled_decodes, decoded_same}
 use Rattle.addr_base.proofs.TokenLemmas.{token_of_own, mark_no_token}
 use Rattle.addr_locate.specs.PlainFields.{IsSmall}
-use Rattle.addr_locate.specs.PlainRows.{heading, bundle_line, asset_line, deps_field, keys_field, IsBundle, IsAsset, PlainLines, ArePlain, IsFirstBad}
+use Rattle.addr_locate.specs.PlainRows.{heading, bundle_line, asset_line, deps_field, keys_field, IsBundleRow, IsAssetRow, PlainLines, ArePlain, IsFirstBad}
 use Rattle.addr_locate.specs.declared.rows.BundleRow.{BundleRow}
 use Rattle.addr_locate.specs.declared.rows.PlainAsset.{PlainAsset}
 use Rattle.addr_fields.proofs.CutLemmas.{same_cut}
@@ -31,19 +31,19 @@ each_take P zero xs each = tt
 each_take P (suc k) [] each = tt
 each_take P (suc k) (x ∷ xs) each = (each.0, each_take P k xs each.1)
 
-prefix : (k : ℕ) (bundles : List BundleRow) (assets : List PlainAsset) → AllByRecursion IsBundle bundles → AllByRecursion (IsAsset (length bundles)) assets → ArePlain (heading ∷ take k (map bundle_line bundles ++ map asset_line assets))
+prefix : (k : ℕ) (bundles : List BundleRow) (assets : List PlainAsset) → AllByRecursion IsBundleRow bundles → AllByRecursion (IsAssetRow (length bundles)) assets → ArePlain (heading ∷ take k (map bundle_line bundles ++ map asset_line assets))
 prefix k bundles assets each_bundle each_asset =
     let bs = map bundle_line bundles in
     let long : length bs ≡ length bundles = length-map bundles bundle_line in
     elim (cases_lt k (length bs)) [
       | inl short ↦
           let cut : take k (bs ++ map asset_line assets) ≡ map bundle_line (take k bundles) ++ [] = take-append-le k bs (map asset_line assets) (omega arith) ∙ (take-map bundle_line k bundles ∙ sym (append-nil (map bundle_line (take k bundles)))) in
-          (take k bundles, [], record { spelled = ap (λ r. heading ∷ r) cut; each_bundle = each_take IsBundle k bundles each_bundle; each_asset = tt })
+          (take k bundles, [], record { spelled = ap (λ r. heading ∷ r) cut; each_bundle = each_take IsBundleRow k bundles each_bundle; each_asset = tt })
       | inr past ↦
           let more = k - length bs in
           let whole : length bs + more ≡ k = omega arith in
           let cut : take k (bs ++ map asset_line assets) ≡ bs ++ map asset_line (take more assets) = ap (λ n. take n (bs ++ map asset_line assets)) (sym whole) ∙ (take-append-add bs (map asset_line assets) more ∙ ap (λ r. bs ++ r) (take-map asset_line more assets)) in
-          (bundles, take more assets, record { spelled = ap (λ r. heading ∷ r) cut; each_bundle = each_bundle; each_asset = each_take (IsAsset (length bundles)) more assets each_asset })
+          (bundles, take more assets, record { spelled = ap (λ r. heading ∷ r) cut; each_bundle = each_bundle; each_asset = each_take (IsAssetRow (length bundles)) more assets each_asset })
     ]
 
 pub plain_prefix : (lines : List (List ℕ)) (n : ℕ) → 1 ≤ n → ArePlain lines → ArePlain (take n lines)
@@ -89,7 +89,7 @@ same_bundle key key2 name name2 id id2 digest digest2 size size2 a b c d e = rw 
 same_asset : (id id2 kind kind2 : List ℕ) (deps deps2 : List BundleNo) (keys keys2 : List (List ℕ)) → id ≡ id2 → kind ≡ kind2 → deps ≡ deps2 → keys ≡ keys2 → ◌≡◌ {A = PlainAsset} (record { id = id; kind = kind; deps = deps; keys = keys }) (record { id = id2; kind = kind2; deps = deps2; keys = keys2 })
 same_asset id id2 kind kind2 deps deps2 keys keys2 a b c d = rw (a, b, c, d)
 
-bundle_own : (b c : BundleRow) → IsBundle b → IsBundle c → bundle_line b ≡ bundle_line c → b ≡ c
+bundle_own : (b c : BundleRow) → IsBundleRow b → IsBundleRow c → bundle_line b ≡ bundle_line c → b ≡ c
 bundle_own b c is_b is_c e =
     let names_b = token_of b.name ++ 32 ∷ token_of b.id in
     let names_c = token_of c.name ++ 32 ∷ token_of c.id in
@@ -116,7 +116,7 @@ keys_own [] (l ∷ others) each other e = absurd (mark_no_keys l others other e)
 keys_own (k ∷ keys) [] each other e = absurd (mark_no_keys k keys each (sym e))
 keys_own (k ∷ keys) (l ∷ others) each other e = same_list token_of IsUtf8 token_free_of_comma token_of_own (keys_field (k ∷ keys)) (k ∷ keys) (l ∷ others) (λ empty. cc) (λ empty. cc) each other refl e
 
-asset_own : (n m : ℕ) → n < 2 ^ 32 → m < 2 ^ 32 → (a b : PlainAsset) → IsAsset n a → IsAsset m b → asset_line a ≡ asset_line b → a ≡ b
+asset_own : (n m : ℕ) → n < 2 ^ 32 → m < 2 ^ 32 → (a b : PlainAsset) → IsAssetRow n a → IsAssetRow m b → asset_line a ≡ asset_line b → a ≡ b
 asset_own n m few_n few_m a b is_a is_b e =
     let deps_a = deps_field a.deps ++ 32 ∷ keys_field a.keys in
     let deps_b = deps_field b.deps ++ 32 ∷ keys_field b.keys in
@@ -132,7 +132,7 @@ asset_own n m few_n few_m a b is_a is_b e =
     let same_deps = same_list f IsSmall number_free number_own (deps_field a.deps) a.deps b.deps ours.0 theirs.0 ours.1 theirs.1 ours.2 theirs.2 in
     same_asset a.id b.id a.kind b.kind a.deps b.deps a.keys b.keys (token_of_own a.id b.id is_a.id is_b.id id.0) (token_of_own a.kind b.kind is_a.kind is_b.kind kind.0) same_deps (keys_own a.keys b.keys is_a.keys is_b.keys deps.1)
 
-assets_own : (n m : ℕ) → n < 2 ^ 32 → m < 2 ^ 32 → (assets others : List PlainAsset) → AllByRecursion (IsAsset n) assets → AllByRecursion (IsAsset m) others → map asset_line assets ≡ map asset_line others → assets ≡ others
+assets_own : (n m : ℕ) → n < 2 ^ 32 → m < 2 ^ 32 → (assets others : List PlainAsset) → AllByRecursion (IsAssetRow n) assets → AllByRecursion (IsAssetRow m) others → map asset_line assets ≡ map asset_line others → assets ≡ others
 assets_own n m few_n few_m [] [] each other e = refl
 assets_own n m few_n few_m [] (b ∷ others) each other e = cc
 assets_own n m few_n few_m (a ∷ assets) [] each other e = cc
@@ -140,7 +140,7 @@ assets_own n m few_n few_m (a ∷ assets) (b ∷ others) each other e =
     let head = asset_own n m few_n few_m a b each.0 other.0 (cc) in
     let rest = assets_own n m few_n few_m assets others each.1 other.1 (cc) in cc (head, rest)
 
-rows_own : (n m : ℕ) → n < 2 ^ 32 → m < 2 ^ 32 → (bundles theirs : List BundleRow) (assets others : List PlainAsset) → AllByRecursion IsBundle bundles → AllByRecursion IsBundle theirs → AllByRecursion (IsAsset n) assets → AllByRecursion (IsAsset m) others → map bundle_line bundles ++ map asset_line assets ≡ map bundle_line theirs ++ map asset_line others → (bundles ≡ theirs) × (assets ≡ others)
+rows_own : (n m : ℕ) → n < 2 ^ 32 → m < 2 ^ 32 → (bundles theirs : List BundleRow) (assets others : List PlainAsset) → AllByRecursion IsBundleRow bundles → AllByRecursion IsBundleRow theirs → AllByRecursion (IsAssetRow n) assets → AllByRecursion (IsAssetRow m) others → map bundle_line bundles ++ map asset_line assets ≡ map bundle_line theirs ++ map asset_line others → (bundles ≡ theirs) × (assets ≡ others)
 rows_own n m few_n few_m [] [] assets others each_b each_c each_a each_o e = (refl, assets_own n m few_n few_m assets others each_a each_o e)
 rows_own n m few_n few_m [] (c ∷ theirs) [] others each_b each_c each_a each_o e = absurd (cc)
 rows_own n m few_n few_m [] (c ∷ theirs) (a ∷ assets) others each_b each_c each_a each_o e = let same : bundle_line c ≡ asset_line a = cc in absurd (lines_differ c a same)

@@ -7,7 +7,7 @@ use Rattle.std.proofs.lemmas.Grind.{flat_map-append}
 use Rattle.addr_base.specs.Tokens.{token_of}
 use Rattle.addr_fields.specs.Lines.{lines_of}
 use Rattle.addr_locate.specs.PlainParts.{BundlesThen, ReadsAssets}
-use Rattle.addr_locate.specs.PlainRows.{heading, bundle_line, asset_line, deps_field, keys_field, IsBundle, IsAsset, IsFirstBad, ReadsRows}
+use Rattle.addr_locate.specs.PlainRows.{heading, bundle_line, asset_line, deps_field, keys_field, IsBundleRow, IsAssetRow, IsFirstBad, ReadsRows}
 use Rattle.addr_locate.specs.declared.error.RowsErr.{RowsErr}
 use Rattle.addr_locate.specs.declared.error.RowsErr.TheVariants.{Line, NoMemory}
 use Rattle.addr_locate.specs.Rows.{keys_of, has_sound_deps, no_text_twice}
@@ -29,7 +29,7 @@ pub lines_differ : (b : BundleRow) (a : PlainAsset) → bundle_line b ≡ asset_
 lines_differ b a e = let same : 98 ≡ 97 = cc in let wrong : false ≡ true = ap (λ x. x == 97) same in false≢true wrong
 
 -- where lines of bundles and assets are again such lines and one more, as many are bundles', or that one is a bundle's behind no asset's
-same_split : (bs theirs : List BundleRow) (assets others : List PlainAsset) (line : List ℕ) → AllByRecursion IsBundle theirs → map bundle_line theirs ++ map asset_line others ≡ map bundle_line bs ++ (map asset_line assets ++ line ∷ []) → ((length theirs ≡ length bs) × (map asset_line others ≡ map asset_line assets ++ line ∷ [])) ⊎ ((assets ≡ []) × ((b : BundleRow) × IsBundle b × (line ≡ bundle_line b)))
+same_split : (bs theirs : List BundleRow) (assets others : List PlainAsset) (line : List ℕ) → AllByRecursion IsBundleRow theirs → map bundle_line theirs ++ map asset_line others ≡ map bundle_line bs ++ (map asset_line assets ++ line ∷ []) → ((length theirs ≡ length bs) × (map asset_line others ≡ map asset_line assets ++ line ∷ [])) ⊎ ((assets ≡ []) × ((b : BundleRow) × IsBundleRow b × (line ≡ bundle_line b)))
 same_split [] [] assets others line each e = inl (refl, e)
 same_split [] (b ∷ theirs) [] others line each e = let same : line ≡ bundle_line b = cc in inr (refl, (b, each.0, same))
 same_split [] (b ∷ theirs) (a ∷ assets) others line each e = let same : bundle_line b ≡ asset_line a = cc in absurd (lines_differ b a same)
@@ -43,7 +43,7 @@ pub heading_bad : (lines : List (List ℕ)) → ((more : List (List ℕ)) → li
 heading_bad [] none = record { before = inl refl; bad = λ plain. absurd (cc (plain.2.spelled)) }
 heading_bad (line ∷ lines) none = record { before = inl refl; bad = λ plain. let first : line ≡ heading = cc (plain.2.spelled) in none lines (ap (λ l. l ∷ lines) first) }
 
-pub first_bad : (lines behind rest : List (List ℕ)) (bundles : List BundleRow) (assets : List PlainAsset) (line : List ℕ) (after : List (List ℕ)) (place : ℕ) → lines ≡ heading ∷ behind → behind ≡ map bundle_line bundles ++ rest → AllByRecursion IsBundle bundles → ((b : BundleRow) (more : List (List ℕ)) → IsBundle b → rest ≡ bundle_line b ∷ more → ⊥) → rest ≡ map asset_line assets ++ line ∷ after → AllByRecursion (IsAsset (length bundles)) assets → ((a : PlainAsset) → IsAsset (length bundles) a → line ≡ asset_line a → ⊥) → place ≡ length bundles + 2 + length assets → IsFirstBad lines place
+pub first_bad : (lines behind rest : List (List ℕ)) (bundles : List BundleRow) (assets : List PlainAsset) (line : List ℕ) (after : List (List ℕ)) (place : ℕ) → lines ≡ heading ∷ behind → behind ≡ map bundle_line bundles ++ rest → AllByRecursion IsBundleRow bundles → ((b : BundleRow) (more : List (List ℕ)) → IsBundleRow b → rest ≡ bundle_line b ∷ more → ⊥) → rest ≡ map asset_line assets ++ line ∷ after → AllByRecursion (IsAssetRow (length bundles)) assets → ((a : PlainAsset) → IsAssetRow (length bundles) a → line ≡ asset_line a → ⊥) → place ≡ length bundles + 2 + length assets → IsFirstBad lines place
 first_bad lines behind rest bundles assets line after place first second each_bundle stops third each_asset wrong place_is =
     let bs = map bundle_line bundles in
     let others = map asset_line assets in
@@ -62,8 +62,8 @@ first_bad lines behind rest bundles assets line after place first second each_bu
           let same : map bundle_line plain.0 ++ map asset_line plain.1 ≡ bs ++ others ++ line ∷ [] = cc in
           elim (same_split bundles plain.0 assets plain.1 line plain.2.each_bundle (same ∙ tail)) [
             | inl found ↦
-                let P : ℕ → Type 0 = λ n. AllByRecursion (IsAsset n) plain.1 in
-                let at_asset = image_at asset_line (IsAsset (length bundles)) plain.1 (subst P found.0 plain.2.each_asset) others line [] found.1 in
+                let P : ℕ → Type 0 = λ n. AllByRecursion (IsAssetRow n) plain.1 in
+                let at_asset = image_at asset_line (IsAssetRow (length bundles)) plain.1 (subst P found.0 plain.2.each_asset) others line [] found.1 in
                 wrong at_asset.0 at_asset.1 at_asset.2
             | inr found ↦
                 let none : others ≡ [] = ap (map asset_line) found.0 in
@@ -96,11 +96,11 @@ pub few_keys_of : (assets : List PlainAsset) → length (keys_of assets) ≤ len
 few_keys_of assets = length-texts_once-le (flat_map (λ (a : PlainAsset). a.keys) assets)
 
 -- rows that were read meet what `of_rows` asks
-pub all_sound : (count : ℕ) (assets : List PlainAsset) → AllByRecursion (IsAsset count) assets → list_all (λ (a : PlainAsset). has_sound_deps count a.deps) assets ≡ true
+pub all_sound : (count : ℕ) (assets : List PlainAsset) → AllByRecursion (IsAssetRow count) assets → list_all (λ (a : PlainAsset). has_sound_deps count a.deps) assets ≡ true
 all_sound count [] each = refl
 all_sound count (a ∷ assets) each = rw (each.0.deps, all_sound count assets each.1)
 
-pub all_once : (count : ℕ) (assets : List PlainAsset) → AllByRecursion (IsAsset count) assets → list_all (λ (a : PlainAsset). no_text_twice a.keys) assets ≡ true
+pub all_once : (count : ℕ) (assets : List PlainAsset) → AllByRecursion (IsAssetRow count) assets → list_all (λ (a : PlainAsset). no_text_twice a.keys) assets ≡ true
 all_once count [] each = refl
 all_once count (a ∷ assets) each = rw (each.0.once, all_once count assets each.1)
 

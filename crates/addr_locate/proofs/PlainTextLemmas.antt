@@ -15,7 +15,7 @@ use Rattle.addr_fields.specs.Lines.{lines_of}
 use Rattle.addr_fields.proofs.LineLemmas.{lines_of_cut}
 use Rattle.addr_fields.proofs.NumberLemmas.{decimal_is_free}
 use Rattle.addr_locate.specs.Alike.{AreAlikeRows}
-use Rattle.addr_locate.specs.PlainRows.{heading, bundle_line, asset_line, deps_field, keys_field, IsBundle, IsAsset, PlainLines}
+use Rattle.addr_locate.specs.PlainRows.{heading, bundle_line, asset_line, deps_field, keys_field, IsBundleRow, IsAssetRow, PlainLines}
 use Rattle.addr_locate.specs.PlainText.{HasTexts, ReadsAlike, ended, plain_asset, plain_text, in_order, primary_first}
 use Rattle.addr_locate.specs.Rows.{Rows, AreRows, rows_of, written, text_at, has_sound_deps, no_text_twice}
 use Rattle.addr_locate.specs.declared.rows.AssetRow.{AssetRow}
@@ -56,14 +56,14 @@ utf8_keys f keys others sorted first split order here rest =
 free_append : (xs ys : List ℕ) → has_byte 10 xs ≡ false → has_byte 10 ys ≡ false → has_byte 10 (xs ++ ys) ≡ false
 free_append xs ys free_x free_y = list_any-append (λ b. b == 10) xs ys ∙ rw (free_x, free_y) refl
 
-bundle_line_free : (b : BundleRow) → IsBundle b → has_byte 10 (bundle_line b) ≡ false
+bundle_line_free : (b : BundleRow) → IsBundleRow b → has_byte 10 (bundle_line b) ≡ false
 bundle_line_free b is =
     let names = free_append (token_of b.name) (32 ∷ token_of b.id) (token_free 10 refl b.name is.name) (token_free 10 refl b.id is.id) in
     let digest = free_append (hex_of b.digest.0) (32 ∷ (token_of b.name ++ 32 ∷ token_of b.id)) (hex_free 10 refl refl b.digest.0) names in
     let size = free_append (decimal b.size) (32 ∷ (hex_of b.digest.0 ++ 32 ∷ (token_of b.name ++ 32 ∷ token_of b.id))) (decimal_is_free 10 b.size (omega arith) is.size) digest in
     free_append (token_of b.key) (32 ∷ (decimal b.size ++ 32 ∷ (hex_of b.digest.0 ++ 32 ∷ (token_of b.name ++ 32 ∷ token_of b.id)))) (token_free 10 refl b.key is.key) size
 
-asset_line_free : (count : ℕ) → count < 2 ^ 32 → (a : PlainAsset) → IsAsset count a → has_byte 10 (asset_line a) ≡ false
+asset_line_free : (count : ℕ) → count < 2 ^ 32 → (a : PlainAsset) → IsAssetRow count a → has_byte 10 (asset_line a) ≡ false
 asset_line_free count few a is =
     let deps = free_append (deps_field a.deps) (32 ∷ keys_field a.keys) (deps_free_of 10 (omega arith) refl count few a.deps is.deps) (keys_free_of_end a.keys is.keys) in
     let kind = free_append (token_of a.kind) (32 ∷ (deps_field a.deps ++ 32 ∷ keys_field a.keys)) (token_free 10 refl a.kind is.kind) deps in
@@ -93,7 +93,7 @@ text_parts r start bundles whole put_start put_bundles put_assets =
     rw (put_assets, put_bundles, put_start) (parts ∙ ap (λ rest. codes "addr-rows 1\n" ++ rest) (sym joined))
 
 -- the rows that are written are in the form
-asset_is : (r : Rows) (count : ℕ) (a : AssetRow) → HasTexts (plain_asset r a) → has_sound_deps count a.deps ≡ true → no_text_twice (map (λ (k : KeyNo). text_at r.keys k.0) a.keys) ≡ true → IsAsset count (plain_asset r a)
+asset_is : (r : Rows) (count : ℕ) (a : AssetRow) → HasTexts (plain_asset r a) → has_sound_deps count a.deps ≡ true → no_text_twice (map (λ (k : KeyNo). text_at r.keys k.0) a.keys) ≡ true → IsAssetRow count (plain_asset r a)
 asset_is r count a texts sound once = record {
   id = texts.id;
   kind = texts.kind;
@@ -102,7 +102,7 @@ asset_is r count a texts sound once = record {
   once = twice-primary_first (λ k. text_at r.keys k.0) a.keys ∙ once;
 }
 
-assets_are : (r : Rows) (count : ℕ) (assets : List AssetRow) → AllByRecursion HasTexts (map (plain_asset r) assets) → list_all (λ (a : AssetRow). has_sound_deps count a.deps) assets ≡ true → list_all (λ (a : AssetRow). no_text_twice (map (λ (k : KeyNo). text_at r.keys k.0) a.keys)) assets ≡ true → AllByRecursion (IsAsset count) (map (plain_asset r) assets)
+assets_are : (r : Rows) (count : ℕ) (assets : List AssetRow) → AllByRecursion HasTexts (map (plain_asset r) assets) → list_all (λ (a : AssetRow). has_sound_deps count a.deps) assets ≡ true → list_all (λ (a : AssetRow). no_text_twice (map (λ (k : KeyNo). text_at r.keys k.0) a.keys)) assets ≡ true → AllByRecursion (IsAssetRow count) (map (plain_asset r) assets)
 assets_are r count [] texts sound once = tt
 assets_are r count (a ∷ assets) texts sound once =
     let sounds = and_parts (has_sound_deps count a.deps) (list_all (λ (x : AssetRow). has_sound_deps count x.deps) assets) sound in
@@ -141,17 +141,17 @@ rows_of-bundles : (bundles : List BundleRow) (assets : List PlainAsset) → (row
 unfolding rows_of
 rows_of-bundles bundles assets = refl
 
-plain_lines : (r : Rows) → AreRows r → AllByRecursion IsBundle r.bundles → AllByRecursion HasTexts (map (plain_asset r) r.assets) → PlainLines (lines_of (plain_text r)) r.bundles (map (plain_asset r) r.assets)
+plain_lines : (r : Rows) → AreRows r → AllByRecursion IsBundleRow r.bundles → AllByRecursion HasTexts (map (plain_asset r) r.assets) → PlainLines (lines_of (plain_text r)) r.bundles (map (plain_asset r) r.assets)
 unfolding plain_text
 plain_lines r are bundles texts =
     let assets = map (plain_asset r) r.assets in
     let each = assets_are r (length r.bundles) r.assets texts are.deps are.keys in
-    let free_bundles = each_map IsBundle (λ line. has_byte 10 line ≡ false) bundle_line bundle_line_free r.bundles bundles in
-    let free_assets = each_map (IsAsset (length r.bundles)) (λ line. has_byte 10 line ≡ false) asset_line (asset_line_free (length r.bundles) are.few_bundles) assets each in
+    let free_bundles = each_map IsBundleRow (λ line. has_byte 10 line ≡ false) bundle_line bundle_line_free r.bundles bundles in
+    let free_assets = each_map (IsAssetRow (length r.bundles)) (λ line. has_byte 10 line ≡ false) asset_line (asset_line_free (length r.bundles) are.few_bundles) assets each in
     let free = each_append (λ line. has_byte 10 line ≡ false) (heading ∷ map bundle_line r.bundles) (map asset_line assets) (refl, free_bundles) free_assets in
     record { spelled = lines_of_ended (heading ∷ map bundle_line r.bundles ++ map asset_line assets) free; each_bundle = bundles; each_asset = each }
 
-pub reads_alike : (r : Rows) (text : List ℕ) → AreRows r → AllByRecursion IsBundle r.bundles → AllByRecursion HasTexts (map (plain_asset r) r.assets) → text ≡ plain_text r → ReadsAlike text r
+pub reads_alike : (r : Rows) (text : List ℕ) → AreRows r → AllByRecursion IsBundleRow r.bundles → AllByRecursion HasTexts (map (plain_asset r) r.assets) → text ≡ plain_text r → ReadsAlike text r
 reads_alike r text are bundles texts is =
     let assets = map (plain_asset r) r.assets in
     let again = rows_of r.bundles assets in

@@ -6,7 +6,7 @@ use Rattle.addr_base.specs.Ids.{Are16Bytes, hex_of}
 use Rattle.addr_base.specs.Tokens.{token_of}
 use Rattle.addr_base.specs.declared.ids.BundleNo.{BundleNo}
 use Rattle.addr_base.specs.declared.ids.Digest.{Digest}
-use Rattle.addr_locate.specs.PlainRows.{IsAsset, IsBundle, asset_line, bundle_line, deps_field, keys_field}
+use Rattle.addr_locate.specs.PlainRows.{IsAssetRow, IsBundleRow, asset_line, bundle_line, deps_field, keys_field}
 use Rattle.addr_locate.specs.Rows.{has_sound_deps, no_text_twice}
 use Rattle.addr_locate.specs.declared.rows.BundleRow.{BundleRow}
 use Rattle.addr_locate.specs.declared.rows.PlainAsset.{PlainAsset}
@@ -43,9 +43,9 @@ ReadsKeys field None = (keys : List (List ℕ)) → AllByRecursion IsUtf8 keys �
 
 -- what a line is read as: the bundle that it spells, or the asset where there are so many bundles
 abbrev pub ReadsBundle : List ℕ → Option BundleRow → Type 0
-ReadsBundle line (Some b) = IsBundle b × (line ≡ bundle_line b)
-ReadsBundle line None = (b : BundleRow) → IsBundle b → line ≡ bundle_line b → ⊥
+ReadsBundle line (Some b) = IsBundleRow b × (line ≡ bundle_line b)
+ReadsBundle line None = (b : BundleRow) → IsBundleRow b → line ≡ bundle_line b → ⊥
 
 abbrev pub ReadsAsset : ℕ → List ℕ → Option PlainAsset → Type 0
-ReadsAsset count line (Some a) = IsAsset count a × (line ≡ asset_line a)
-ReadsAsset count line None = (a : PlainAsset) → IsAsset count a → line ≡ asset_line a → ⊥
+ReadsAsset count line (Some a) = IsAssetRow count a × (line ≡ asset_line a)
+ReadsAsset count line None = (a : PlainAsset) → IsAssetRow count a → line ≡ asset_line a → ⊥

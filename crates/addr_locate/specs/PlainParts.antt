@@ -2,7 +2,7 @@
 use Rattle.std.specs.Prelude.{ℕ, ◌≡◌, ◌≤◌, ◌+◌, List, ◌∷◌, ◌++◌, Result, Ok, Err, map, length}
 use Rattle.std.specs.List.{AllByRecursion, flat_map}
 use Rattle.addr_fields.specs.Lines.{lines_of}
-use Rattle.addr_locate.specs.PlainRows.{IsAsset, IsBundle, asset_line, bundle_line}
+use Rattle.addr_locate.specs.PlainRows.{IsAssetRow, IsBundleRow, asset_line, bundle_line}
 use Rattle.addr_locate.specs.declared.error.RowsErr.{RowsErr}
 use Rattle.addr_locate.specs.declared.error.RowsErr.TheVariants.{Line, NoMemory}
 use Rattle.addr_locate.specs.declared.rows.BundleRow.{BundleRow}
@@ -11,14 +11,14 @@ use Rattle.addr_locate.specs.declared.rows.PlainAsset.{PlainAsset}
 -- the first lines are the bundles', and the next one, if there is one, is no bundle's
 pub record BundlesThen (bytes : List ℕ) (bundles : List BundleRow) (rest : List ℕ) : Type 0 where
   pub spelled : lines_of bytes ≡ map bundle_line bundles ++ lines_of rest
-  pub each : AllByRecursion IsBundle bundles
-  pub stops : (b : BundleRow) (more : List (List ℕ)) → IsBundle b → lines_of rest ≡ bundle_line b ∷ more → ⊥
+  pub each : AllByRecursion IsBundleRow bundles
+  pub stops : (b : BundleRow) (more : List (List ℕ)) → IsBundleRow b → lines_of rest ≡ bundle_line b ∷ more → ⊥
   pub room : length bundles + length rest ≤ length bytes
 
 -- the lines are the assets'; the bytes have room for as many assets, and for as many keys
 pub record AreAssets (bytes : List ℕ) (count : ℕ) (assets : List PlainAsset) : Type 0 where
   pub spelled : lines_of bytes ≡ map asset_line assets
-  pub each : AllByRecursion (IsAsset count) assets
+  pub each : AllByRecursion (IsAssetRow count) assets
   pub room : length assets ≤ length bytes
   pub key_room : length (flat_map (λ a. a.keys) assets) ≤ length bytes
 
@@ -28,8 +28,8 @@ pub record IsBadAfter (bytes : List ℕ) (count place : ℕ) : Type 0 where
   pub line : List ℕ
   pub after : List (List ℕ)
   pub spelled : lines_of bytes ≡ map asset_line assets ++ line ∷ after
-  pub each : AllByRecursion (IsAsset count) assets
-  pub wrong : (a : PlainAsset) → IsAsset count a → line ≡ asset_line a → ⊥
+  pub each : AllByRecursion (IsAssetRow count) assets
+  pub wrong : (a : PlainAsset) → IsAssetRow count a → line ≡ asset_line a → ⊥
   pub place_is : place ≡ count + 2 + length assets
 
 -- what the lines behind the bundles are read as

@@ -32,7 +32,7 @@ abbrev pub asset_line : PlainAsset → List ℕ
 asset_line a = codes "asset " ++ (token_of a.id ++ 32 ∷ (token_of a.kind ++ 32 ∷ (deps_field a.deps ++ 32 ∷ keys_field a.keys)))
 
 -- what a bundle row holds
-pub record IsBundle (b : BundleRow) : Type 0 where
+pub record IsBundleRow (b : BundleRow) : Type 0 where
   pub key : IsUtf8 b.key
   pub size : b.size < 2 ^ 64
   pub digest : Are16Bytes b.digest.0
@@ -40,7 +40,7 @@ pub record IsBundle (b : BundleRow) : Type 0 where
   pub id : IsUtf8 b.id
 
 -- what an asset row holds where there are so many bundles
-pub record IsAsset (count : ℕ) (a : PlainAsset) : Type 0 where
+pub record IsAssetRow (count : ℕ) (a : PlainAsset) : Type 0 where
   pub id : IsUtf8 a.id
   pub kind : IsUtf8 a.kind
   pub deps : IsTrue (has_sound_deps count a.deps)
@@ -50,8 +50,8 @@ pub record IsAsset (count : ℕ) (a : PlainAsset) : Type 0 where
 -- the lines are the heading, those of the bundles, and those of the assets
 pub record PlainLines (lines : List (List ℕ)) (bundles : List BundleRow) (assets : List PlainAsset) : Type 0 where
   pub spelled : lines ≡ heading ∷ map bundle_line bundles ++ map asset_line assets
-  pub each_bundle : AllByRecursion IsBundle bundles
-  pub each_asset : AllByRecursion (IsAsset (length bundles)) assets
+  pub each_bundle : AllByRecursion IsBundleRow bundles
+  pub each_asset : AllByRecursion (IsAssetRow (length bundles)) assets
 
 -- the lines are in the form
 abbrev pub ArePlain : List (List ℕ) → Type 0

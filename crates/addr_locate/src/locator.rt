@@ -58,6 +58,20 @@ impl Locator {
         self.assets.as_slice()
     }
 
+    /// The texts of the keys, in the order of their numbers.
+    pub fn keys(&self) -> &[Text]
+        ensures { result.now ≡ self.now.keys }
+    {
+        self.keys.as_slice()
+    }
+
+    /// The texts of the types, in the order of their numbers.
+    pub fn kinds(&self) -> &[Text]
+        ensures { result.now ≡ self.now.kinds }
+    {
+        self.kinds.as_slice()
+    }
+
     /// The number of the key with that text. Searches the list of keys.
     pub fn key_no(&self, text: &str) -> Option<KeyNo>
         ensures place { result ≡ key_of self.now text.now }

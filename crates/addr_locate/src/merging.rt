@@ -1,12 +1,14 @@
 // What keys lead to. One walk over the rows a key; the rows of several keys are found by one test on each row.
-ghost use Rattle.std.specs.Prelude.{◌≡◌, ◌==◌, ◌<◌, ◌^◌, ◌++◌, ◌&&◌, not, List, map, length, IfOk, OnOk};
+ghost use Rattle.std.specs.Prelude.{◌≡◌, ◌==◌, ◌<◌, ◌^◌, ◌++◌, ◌∷◌, [], ◌&&◌, not, List, map, length, IfOk, OnOk};
 ghost use Rattle.std.specs.List.{list_any, list_all};
-ghost use Rattle.addr_locate.specs.Merge.{is_kind, has_key, is_match, has_none, rows_where, first_filled, merged, distinct, deps_of_row, deps_of};
+ghost use Rattle.addr_locate.specs.Lookups.{AreFound};
+ghost use Rattle.addr_locate.specs.Merge.{is_kind, has_key, is_match, has_none, rows_where, first_filled, merged, deps_of_row, deps_of};
 ghost use Rattle.addr_base.specs.declared.ids.BundleNo.{BundleNo};
 
 use crate::rows::{AssetRow, Kind, Merge};
 use addr_base::{BundleNo, Items, KeyNo, NoMemory, RowNo};
 use std::alloc::Global;
+use std::collections::BTreeSet;
 
 fn is_kind(kind: Kind, row: &AssetRow) -> bool
     ensures { result ≡ is_kind kind row.now }
@@ -40,7 +42,7 @@ pub fn is_match(kind: Kind, key: Option<KeyNo>, row: &AssetRow) -> bool
     has_key(key, row) && is_kind(kind, row)
 }
 
-/// The rows that have the key and are of the asked kind.
+/// The rows that have the key and are of the asked kind. A key that isn't in the catalogue takes no walk.
 fn matching(
     alloc: Global,
     rows: &[AssetRow],
@@ -51,6 +53,9 @@ fn matching(
     ensures { IfOk result (λ found. found ≡ rows_where (is_match kind key) rows.now) }
 {
     let mut found = Items::new(alloc);
+    if key.is_none() {
+        return Ok(found);
+    }
     for (i, row) in rows.iter().enumerate() {
         if is_match(kind, key, row) {
             found.push(RowNo(i as u32))?;
@@ -153,12 +158,6 @@ pub(crate) fn merge_rows(
     }
 }
 
-fn is_known(bundles: &[BundleNo], bundle: BundleNo) -> bool
-    ensures { result ≡ list_any (λ c. c.0 == bundle.0) bundles.now }
-{
-    bundles.iter().any(|b| b.0 == bundle.0)
-}
-
 fn deps_of_row(assets: &[AssetRow], row: RowNo) -> &[BundleNo]
     ensures { result.now ≡ deps_of_row assets.now row }
 {
@@ -168,19 +167,35 @@ fn deps_of_row(assets: &[AssetRow], row: RowNo) -> &[BundleNo]
     }
 }
 
-/// Appends those of a row's bundles that aren't there yet.
-fn add_deps(found: &mut Items<BundleNo>, deps: &[BundleNo]) -> Result<(), NoMemory>
-    ensures { (seen : List BundleNo) → found.old ≡ distinct seen → OnOk result (found.new ≡ distinct (seen ++ deps.now)) }
+/// Appends a bundle that isn't there yet.
+fn add_new(
+    seen: &mut BTreeSet<u32>,
+    found: &mut Items<BundleNo>,
+    bundle: BundleNo,
+) -> Result<(), NoMemory>
+    ensures { (before : List BundleNo) → AreFound before found.old seen.old → OnOk result (AreFound (before ++ bundle ∷ []) found.new seen.new) }
 {
-    for dep in deps {
-        if !is_known(found.as_slice(), *dep) {
-            found.push(*dep)?;
-        }
+    if seen.insert(bundle.0)? {
+        found.push(bundle)?;
     }
     Ok(())
 }
 
-/// The distinct bundles of the rows, in order of first occurrence.
+/// Appends those of a row's bundles that aren't there yet.
+fn add_deps(
+    seen: &mut BTreeSet<u32>,
+    found: &mut Items<BundleNo>,
+    deps: &[BundleNo],
+) -> Result<(), NoMemory>
+    ensures { (before : List BundleNo) → AreFound before found.old seen.old → OnOk result (AreFound (before ++ deps.now) found.new seen.new) }
+{
+    for dep in deps {
+        add_new(seen, found, *dep)?;
+    }
+    Ok(())
+}
+
+/// The distinct bundles of the rows, in order of first occurrence. A set tells which were found.
 pub(crate) fn distinct_deps(
     alloc: Global,
     assets: &[AssetRow],
@@ -188,9 +203,10 @@ pub(crate) fn distinct_deps(
 ) -> Result<Items<BundleNo>, NoMemory>
     ensures { IfOk result (λ found. found ≡ deps_of assets.now rows.now) }
 {
+    let mut seen = BTreeSet::new(alloc);
     let mut found = Items::new(alloc);
     for row in rows {
-        add_deps(&mut found, deps_of_row(assets, *row))?;
+        add_deps(&mut seen, &mut found, deps_of_row(assets, *row))?;
     }
     Ok(found)
 }

@@ -5,7 +5,7 @@ ghost use Rattle.std.specs.List.{AllByRecursion, flat_map};
 ghost use Rattle.std.specs.Str.{IsUtf8};
 ghost use Rattle.addr_base.specs.Ids.{Are16Bytes};
 ghost use Rattle.addr_base.specs.Tokens.{token_of};
-ghost use Rattle.addr_locate.specs.PlainRows.{IsBundle, asset_line, bundle_line, deps_field, keys_field};
+ghost use Rattle.addr_locate.specs.PlainRows.{IsBundleRow, asset_line, bundle_line, deps_field, keys_field};
 ghost use Rattle.addr_locate.specs.PlainText.{HasTexts, ReadsAlike, ended, in_order, plain_asset, plain_text, primary_first};
 ghost use Rattle.addr_locate.specs.Rows.{text_at};
 
@@ -30,7 +30,7 @@ pub fn write_rows(alloc: Global, locator: &Locator) -> Result<Text, NoMemory>
 
 fn push_bundles(alloc: Global, text: &mut String, bundles: &[BundleRow]) -> Result<(), NoMemory>
     ensures written { OnOk result (string_bytes text.new ≡ string_bytes text.old ++ ended (map bundle_line bundles.now)) }
-    ensures form { OnOk result (AllByRecursion IsBundle bundles.now) }
+    ensures form { OnOk result (AllByRecursion IsBundleRow bundles.now) }
 {
     for bundle in bundles {
         push_bundle(alloc, text, bundle)?;
@@ -40,7 +40,7 @@ fn push_bundles(alloc: Global, text: &mut String, bundles: &[BundleRow]) -> Resu
 
 fn push_bundle(alloc: Global, text: &mut String, bundle: &BundleRow) -> Result<(), NoMemory>
     ensures written { OnOk result (string_bytes text.new ≡ string_bytes text.old ++ (bundle_line bundle.now ++ 10 ∷ [])) }
-    ensures form { OnOk result (IsBundle bundle.now) }
+    ensures form { OnOk result (IsBundleRow bundle.now) }
 {
     let key = token(alloc, bundle.key.as_str())?;
     let name = token(alloc, bundle.name.as_str())?;

@@ -18,11 +18,12 @@ use Rattle.addr_project.specs.declared.rows.ProjectFile.{ProjectFile}
 use Rattle.addr_project.specs.AssetFiles.{KeepsRows}
 use Rattle.addr_project.specs.Checked.{entries_of}
 use Rattle.addr_expansion.specs.Expansion.{Outcome, bad, circular, given, expanded, reply_to, outcome_of}
-use Rattle.addr_project.specs.Faults.{count_fault, key_fault, link_fault, file_fault, guids_of, entry_guids, names_of, is_reserved, lacks_group, lacks_ref, lacks_asset}
+use Rattle.addr_expansion.specs.Replies.{replies}
+use Rattle.addr_project.specs.Faults.{count_fault, key_fault, link_fault, text_fault, file_fault, guids_of, entry_guids, names_of, is_reserved, lacks_group, lacks_ref, lacks_asset}
 use Rattle.addr_project_rows.specs.Firsts.{first_repeat, is_among}
 use Rattle.addr_project.specs.Kept.{IsKept, IsKeptEntry, asset_guids}
 use Rattle.addr_project.specs.Model.{Project}
-use Rattle.addr_project.specs.Reading.{entry_from, place, text_of}
+use Rattle.addr_project.specs.Reading.{entry_from, place, text_given}
 use Rattle.addr_project.specs.declared.model.Group.{Group}
 use Rattle.addr_base.specs.declared.var.Var.{Var}
 use Rattle.addr_walks.specs.Once.{AreOnce}
@@ -53,18 +54,18 @@ front test x xs false is none = (is, rest (nat_lt (position_or_len test xs) (len
         absurd (cc)
     rest false past = ap (λ (b : Bool). cond b (Some (position_or_len test xs)) None) past
 
-short_text : (t : List ℕ) (b : Bool) → nat_le (length t) 1024 ≡ b → length (text_of (reply_to (given t))) ≤ 1024
+short_text : (t : List ℕ) (b : Bool) → nat_le (length t) 1024 ≡ b → length (text_given (reply_to (given t))) ≤ 1024
 short_text t true short = rw short (grind (arith, nat_tests))
 short_text t false long = rw long (omega arith)
 
-short_reply : (o : Outcome) → length (text_of (reply_to o)) ≤ 1024
+short_reply : (o : Outcome) → length (text_given (reply_to o)) ≤ 1024
 short_reply bad = omega arith
 short_reply circular = omega arith
 short_reply (given t) = short_text t (nat_le (length t) 1024) refl
 
 pub short_expanded : (vs : List Var) (text t : List ℕ) → expanded vs text ≡ Ok t → length t ≤ 1024
 unfolding expanded
-short_expanded vs text t is = subst (λ r. length (text_of r) ≤ 1024) is (short_reply (outcome_of vs (suc (length vs)) text))
+short_expanded vs text t is = subst (λ r. length (text_given r) ≤ 1024) is (short_reply (outcome_of vs (suc (length vs)) text))
 
 labels-same : (guids names : List (List ℕ)) (es : List EntryRow) → map (λ e. e.labels) (map (entry_from guids names) es) ≡ map (λ e. e.labels) es
 labels-same guids names [] = refl
@@ -146,6 +147,7 @@ kept_from f assets local remote none good kept local_is remote_is =
     let grouped = none-parts _ _ names.1 in
     let known = none-parts _ _ grouped.1 in
     let listed = none-parts _ _ known.1 in
+    let texts = none-parts _ _ (none-parts _ _ tests.1).1 in
     let p : Project = record { version = f.version; local = local; remote = remote; variables = f.variables; groups = f.groups; assets = assets; entries = entries_of f } in
     let many : length (guids_of f.assets) ≡ length assets = ap length (sym kept.guids) ∙ length-map assets (λ (a : Asset). a.guid.0) in
     let in_assets = none_passes (lacks_asset (guids_of f.assets)) f.entries (map-none _ _ listed.0) in
@@ -168,4 +170,6 @@ kept_from f assets local remote none good kept local_is remote_is =
       sizes = kept.sizes;
       local = short_expanded f.variables f.local local local_is;
       remote = short_expanded f.variables f.remote remote remote_is;
+      values = (λ i. text_fault (sym local_is i) (sym remote_is i) (replies f.variables)) ∙ texts.0;
+      version = good.version;
     }

@@ -6,5 +6,6 @@ pub mod LoadLemmas
 pub mod NeverLemmas
 pub mod OnceLemmas
 pub mod ReadLemmas
+pub mod SeenLemmas
 pub mod TextLemmas
 pub mod TreeLemmas

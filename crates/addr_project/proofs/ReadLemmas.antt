@@ -16,7 +16,7 @@ use Rattle.addr_project.proofs.KeptLemmas.{kept_from}
 use Rattle.addr_project.proofs.OnceLemmas.{none-parts}
 use Rattle.addr_project.proofs.TreeLemmas.{AreGoodRows}
 use Rattle.addr_project.specs.Faults.{tree_fault, file_fault}
-use Rattle.addr_project.specs.Reading.{path, tree_of, asset_fault, project_of, text_of, unless_fault, reply_after, reply_of_file, reply_of_tree, reply_of_bytes, reply_of_folder}
+use Rattle.addr_project.specs.Reading.{path, tree_of, asset_fault, project_of, text_given, unless_fault, reply_after, reply_of_file, reply_of_tree, reply_of_bytes, reply_of_folder}
 use Rattle.addr_project.specs.Rows.{file_of}
 
 module _ (files : List MemFile) (folder : List ℕ) where
@@ -46,7 +46,7 @@ module _ (files : List MemFile) (folder : List ℕ) where
       → project_of f files folder ≡ record { version = parts.version; local = parts.local; remote = parts.remote; variables = parts.variables; groups = parts.groups; assets = assets; entries = parts.entries }
   unfolding project_of
   project-parts f parts assets are assets_are =
-      λ i. record { version = (sym are.version) i; local = text_of (are.local i); remote = text_of (are.remote i); variables = (sym are.variables) i; groups = (sym are.groups) i; assets = (sym assets_are) i; entries = (sym are.entries) i }
+      λ i. record { version = (sym are.version) i; local = text_given (are.local i); remote = text_given (are.remote i); variables = (sym are.variables) i; groups = (sym are.groups) i; assets = (sym assets_are) i; entries = (sym are.entries) i }
 
 pub file-tested : (tree : Members) → tree_fault tree ≡ None → file_fault (file_of tree) ≡ None
 unfolding tree_fault

@@ -10,7 +10,7 @@ use Rattle.std.specs.Prelude.{IsOk}
 use Rattle.addr_base.specs.declared.var.Var.{Var}
 use Rattle.addr_expansion.specs.Expansion.{expanded}
 use Rattle.addr_expansion.specs.Extents.{answer_of}
-use Rattle.addr_expansion.specs.Replies.{is_unknown, is_circular, replies}
+use Rattle.addr_expansion.specs.Replies.{is_bad, is_circular, replies}
 use Rattle.addr_project.specs.Faults.{too_long, text_fault}
 use Rattle.addr_project.specs.declared.error.ProjectErr.TheVariants.{VariableCycle}
 use Rattle.addr_project.proofs.CircleLemmas.{never_circular}
@@ -21,7 +21,7 @@ neither true b x is = absurd (cc)
 neither false true x is = absurd (cc)
 neither false false x is = (refl, refl)
 
-is_text : (e : Extent) → is_unknown (answer_of e) ≡ false → is_circular (answer_of e) ≡ false → too_long (answer_of e) ≡ None → IsOk (answer_of e)
+is_text : (e : Extent) → is_bad (answer_of e) ≡ false → is_circular (answer_of e) ≡ false → too_long (answer_of e) ≡ None → IsOk (answer_of e)
 is_text Bad known ends short = absurd (false≢true (sym known))
 is_text Circular known ends short = absurd (false≢true (sym ends))
 is_text (Whole t) known ends short = refl
@@ -40,7 +40,7 @@ are_texts vs local remote l r values l_is r_is values_are none =
     let values_end = none-parts _ _ values_known.1 in
     let long_local = none-parts _ _ values_end.1 in
     let long_remote = none-parts _ _ long_local.1 in
-    let known = neither (is_unknown (answer_of l)) (is_unknown (answer_of r)) _ unknown.0 in
+    let known = neither (is_bad (answer_of l)) (is_bad (answer_of r)) _ unknown.0 in
     let none_circular = ap (position is_circular) (sym values_are) ∙ unmapped VariableCycle (position is_circular values) values_end.0 in
     let ends : (text : List ℕ) (e : Extent) → answer_of e ≡ expanded vs text → is_circular (answer_of e) ≡ false = λ text e is. ap is_circular is ∙ never_circular vs text none_circular in
     (is_text l known.0 (ends local l l_is) long_local.0, is_text r known.1 (ends remote r r_is) long_remote.0)

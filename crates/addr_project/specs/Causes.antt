@@ -4,6 +4,7 @@ use Rattle.addr_base.specs.Faults.{Rose}
 use Rattle.addr_project.specs.declared.error.ProjectErr.{ProjectErr}
 use Rattle.addr_project.specs.declared.error.ProjectErr.TheVariants.{DepotFault}
 
-pub record HasCause {T : Type 0} (before now : ℕ) (result : Result T ProjectErr) : Type 0 where
+-- the count doesn't fall, and where the answer is a fault of the depot it rose
+pub record FaultHasCause {T : Type 0} (before now : ℕ) (result : Result T ProjectErr) : Type 0 where
   pub later : before ≤ now
   pub failed : IfErr result (λ e. e ≡ DepotFault → Rose before now)

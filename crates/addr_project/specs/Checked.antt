@@ -13,14 +13,17 @@ use Rattle.addr_project.specs.Reading.{entry_from}
 abbrev pub entries_of : ProjectFile → List Entry
 entries_of f = map (entry_from (guids_of f.assets) (names_of f.groups)) f.entries
 
+-- the two expanded texts of a file
 abbrev pub AreTexts : ProjectFile → Texts → Type 0
 AreTexts f texts = (expanded f.variables f.local ≡ Ok texts.local) × (expanded f.variables f.remote ≡ Ok texts.remote)
 
+-- what is found out of a file: its expanded texts, and its entries by numbers
 pub record IsChecked (f : ProjectFile) (checked : Checked) : Type 0 where
   pub local : expanded f.variables f.local ≡ Ok checked.local
   pub remote : expanded f.variables f.remote ≡ Ok checked.remote
   pub entries : checked.entries ≡ entries_of f
 
+-- a file's project but for the bytes of its assets
 pub record IsParts (f : ProjectFile) (parts : Parts) : Type 0 where
   pub version : parts.version ≡ f.version
   pub local : expanded f.variables f.local ≡ Ok parts.local

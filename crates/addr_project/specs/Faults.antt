@@ -20,7 +20,7 @@ use Rattle.addr_project.specs.declared.rows.AssetRow.{AssetRow}
 use Rattle.addr_project.specs.declared.rows.EntryRow.{EntryRow}
 use Rattle.addr_project.specs.declared.rows.ProjectFile.{ProjectFile}
 use Rattle.addr_expansion.specs.Expansion.{expanded}
-use Rattle.addr_expansion.specs.Replies.{is_unknown, is_circular, replies}
+use Rattle.addr_expansion.specs.Replies.{is_bad, is_circular, replies}
 use Rattle.addr_project_rows.specs.Fields.{first_bad}
 use Rattle.addr_project_rows.specs.Firsts.{first_some, first_of, first_where, first_repeat, is_among}
 use Rattle.addr_project_rows.specs.Variables.{is_bad_variable}
@@ -72,9 +72,11 @@ field_fault tree = option_or (head_fault tree) (row_fault tree)
 abbrev pub over : Limit → ℕ → ℕ → Option ProjectErr
 over which most count = if nat_lt most count then Some (OverLimit which count) else None
 
+-- an entry has too many labels
 abbrev pub over_labels : List (List ℕ) → Option ProjectErr
 over_labels labels = over limit.Labels 32 (length labels)
 
+-- an asset has too many references
 abbrev pub over_refs : List Guid → Option ProjectErr
 over_refs refs = over limit.Refs 1024 (length refs)
 
@@ -96,12 +98,15 @@ count_fault variables groups refs labels = first_some (
 
 -- 3. Names
 
+-- the GUIDs of rows of assets
 abbrev pub guids_of : List AssetRow → List (List ℕ)
 guids_of assets = map (λ a. a.guid.0) assets
 
+-- the GUIDs of the assets that rows of entries are for
 abbrev pub entry_guids : List EntryRow → List (List ℕ)
 entry_guids entries = map (λ e. e.guid.0) entries
 
+-- the names of groups
 abbrev pub names_of : List Group → List (List ℕ)
 names_of groups = map (λ g. g.name) groups
 
@@ -117,6 +122,7 @@ lacks_group names e = not (is_among names e.group)
 abbrev pub lacks_ref : List (List ℕ) → List Guid → Bool
 lacks_ref guids refs = list_any (λ g. not (is_among guids g.0)) refs
 
+-- an entry's asset is none of those GUIDs
 abbrev pub lacks_asset : List (List ℕ) → EntryRow → Bool
 lacks_asset guids e = not (is_among guids e.guid.0)
 
@@ -143,16 +149,18 @@ name_fault groups assets entries = option_or (key_fault groups assets entries) (
 
 -- 4. Expansion
 
+-- the expanded text is too long
 abbrev pub too_long : Result (List ℕ) ExpandErr → Option ProjectErr
 too_long (Err (expanding.TooLong n)) = Some (OverLimit limit.Expanded n)
 too_long _ = None
 
--- the first text, of the profile's two and the variables' values, that leads to a bad name, to itself, or to too much;
--- a text of the profile that leads to itself names a variable whose value does, so the values' test is enough
+-- the first text, of the profile's two and the variables' values, that leads to a bad name, to a name that leads to itself, or
+-- to too much; a text of the profile that leads to a name that leads to itself leads to a variable whose value does, so the
+-- values' test is enough
 unfoldable pub text_fault : Result (List ℕ) ExpandErr → Result (List ℕ) ExpandErr → List (Result (List ℕ) ExpandErr) → Option ProjectErr
 text_fault local remote values = first_some (
-    (if is_unknown local || is_unknown remote then Some (BadVariable part.Profile 0) else None)
-    ∷ option_map (BadVariable part.Variable) (position is_unknown values)
+    (if is_bad local || is_bad remote then Some (BadVariable part.Profile 0) else None)
+    ∷ option_map (BadVariable part.Variable) (position is_bad values)
     ∷ option_map VariableCycle (position is_circular values)
     ∷ too_long local
     ∷ too_long remote
@@ -168,7 +176,7 @@ unfoldable pub file_fault : ProjectFile → Option ProjectErr
 file_fault f = first_some (
     count_fault f.variables f.groups (map (λ a. a.refs) f.assets) (map (λ e. e.labels) f.entries)
     ∷ name_fault f.groups f.assets f.entries
-    ∷ text_fault (expanded f.variables f.local) (expanded f.variables f.remote) (replies f.variables)
+    ∷ texts_fault f
     ∷ [])
 
 -- the first fault of a project file

@@ -1,5 +1,5 @@
 -- What every value of the type `Project` keeps, so that no later crate tests it again.
-use Rattle.std.specs.Prelude.{ℕ, ◌≡◌, ◌<◌, ◌≤◌, List, map, length, None, false}
+use Rattle.std.specs.Prelude.{ℕ, ◌≡◌, ◌<◌, ◌≤◌, List, map, length, None, Ok, true, false}
 use Rattle.std.specs.List.{AllByRecursion, Contains}
 use Rattle.std.specs.List.Sorted.{IsStrictlySortedBy}
 use Rattle.std.specs.Ordering.{nat_cmp}
@@ -7,9 +7,11 @@ use Rattle.std.specs.Cmp.Lexicographic.{slice_cmp}
 use Rattle.addr_base.specs.Ids.{Are16Bytes}
 use Rattle.addr_base.specs.declared.ids.Guid.{Guid}
 use Rattle.addr_walks.specs.Once.{AreOnce}
+use Rattle.addr_expansion.specs.Replies.{replies}
+use Rattle.addr_project_rows.specs.Fields.{is_version}
 use Rattle.addr_project.specs.declared.model.Asset.{Asset}
 use Rattle.addr_project.specs.declared.model.Entry.{Entry}
-use Rattle.addr_project.specs.Faults.{names_of, is_reserved, count_fault}
+use Rattle.addr_project.specs.Faults.{names_of, is_reserved, count_fault, text_fault}
 use Rattle.addr_project.specs.Model.{Project}
 use Rattle.addr_project.specs.Reading.{size_fault}
 
@@ -23,7 +25,7 @@ pub record IsKeptEntry (p : Project) (e : Entry) : Type 0 where
   pub group : e.group < length p.groups
 
 -- each number and each reference leads to something, nothing is repeated that has to differ, labels ascend, no group has the
--- reserved name, and no limit is passed
+-- reserved name, no limit is passed, the version is one, and no variable's value expands to too much or to nothing
 pub record IsKept (p : Project) : Type 0 where
   pub guids : AllByRecursion (λ a. Are16Bytes a.guid.0) p.assets
   pub assets_once : AreOnce (asset_guids p.assets)
@@ -38,3 +40,5 @@ pub record IsKept (p : Project) : Type 0 where
   pub sizes : size_fault (map (λ a. length a.bytes) p.assets) ≡ None
   pub local : length p.local ≤ 1024
   pub remote : length p.remote ≤ 1024
+  pub values : text_fault (Ok p.local) (Ok p.remote) (replies p.variables) ≡ None
+  pub version : is_version p.version ≡ true

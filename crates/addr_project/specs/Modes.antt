@@ -13,6 +13,7 @@ mode_from s =
     else if bytes_eq s (codes "label") then Some Label
     else None
 
+-- a mode, whose word is a text
 abbrev pub mode_of : Data → Option Mode
 mode_of (string s) = mode_from s
 mode_of _ = None

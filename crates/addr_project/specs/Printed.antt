@@ -24,6 +24,7 @@ fault_number (OverLimit which count) = 11
 fault_number (ReservedGroup row) = 12
 fault_number DepotFault = 13
 
+-- the word of a table
 abbrev pub part_text : Part → List ℕ
 part_text part.Project = codes "project"
 part_text part.Profile = codes "profile"
@@ -32,6 +33,7 @@ part_text part.Group = codes "group"
 part_text part.Asset = codes "asset"
 part_text part.Entry = codes "entry"
 
+-- the word of a limit
 abbrev pub limit_text : Limit → List ℕ
 limit_text limit.Variables = codes "variables"
 limit_text limit.Groups = codes "groups"

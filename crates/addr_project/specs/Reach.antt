@@ -5,7 +5,7 @@ use Rattle.std.specs.Ordering.{nat_cmp}
 use Rattle.std.specs.Cmp.Lexicographic.{slice_cmp}
 use Rattle.std.specs.Str.{bytes_eq}
 use Rattle.std.specs.declared.cmp.Ordering.{Ordering}
-use Rattle.hex.specs.Hex.{encode_lower}
+use Rattle.addr_base.specs.Ids.{hex_of}
 use Rattle.addr_base.specs.declared.ids.Guid.{Guid}
 use Rattle.addr_project.specs.declared.model.Asset.{Asset}
 use Rattle.addr_project.specs.declared.model.Entry.{Entry}
@@ -30,9 +30,11 @@ pub record Item : Type 0 where
   pub bytes : List ℕ
   pub refs : List Guid
 
+-- an asset as an item
 abbrev pub item_of : Asset → Item
 item_of asset = record { guid = asset.guid; bytes = asset.bytes; refs = asset.refs }
 
+-- items are ordered by their GUIDs
 abbrev pub item_cmp : Item → Item → Ordering
 item_cmp x y = guid_cmp x.guid y.guid
 
@@ -52,9 +54,10 @@ pub record Row : Type 0 where
 
 -- a key leads to an entry by its address, the 32 digits of its asset's GUID, or a label
 abbrev pub has_key : List ℕ → Entry → Option Asset → Bool
-has_key key e (Some asset) = bytes_eq e.address key || bytes_eq (encode_lower asset.guid.0) key || list_any (λ l. bytes_eq l key) e.labels
+has_key key e (Some asset) = bytes_eq e.address key || bytes_eq (hex_of asset.guid.0) key || list_any (λ l. bytes_eq l key) e.labels
 has_key key e None = false
 
+-- an entry of the project has the key
 abbrev pub is_under : Project → List ℕ → Entry → Bool
 is_under p key e = has_key key e (slice_get p.assets e.asset)
 

@@ -42,6 +42,7 @@ size_answer before n = over_after (sum before) n
 abbrev pub size_fault : List ℕ → Option ProjectErr
 size_fault lengths = first_from size_answer [] lengths
 
+-- the length of a file, and 0 where there is none
 abbrev pub length_of : Option (List ℕ) → ℕ
 length_of bytes = length (unwrap_or bytes [])
 
@@ -53,23 +54,25 @@ asset_fault contents = option_or (option_map MissingFile (first_where (λ before
 abbrev pub place : List (List ℕ) → List ℕ → ℕ
 place keys key = unwrap_or (place_of keys key) 0
 
+-- a row's asset, with the bytes of its file
 abbrev pub asset_from : AssetRow → Option (List ℕ) → Asset
 asset_from row bytes = record { guid = row.guid; kind = row.kind; bytes = unwrap_or bytes []; refs = row.refs }
 
+-- a row's entry, with places among those GUIDs and names in place of its own
 abbrev pub entry_from : List (List ℕ) → List (List ℕ) → EntryRow → Entry
 entry_from guids names row = record { asset = place guids row.guid.0; group = place names row.group; address = row.address; labels = row.labels }
 
 -- the text of an expansion that gave one
-abbrev pub text_of : Result (List ℕ) ExpandErr → List ℕ
-text_of (Ok text) = text
-text_of (Err _) = []
+abbrev pub text_given : Result (List ℕ) ExpandErr → List ℕ
+text_given (Ok text) = text
+text_given (Err _) = []
 
 -- the project of a good file whose asset files have these bytes
 unfoldable pub project_of : ProjectFile → List MemFile → List ℕ → Project
 project_of f files folder = record {
   version = f.version;
-  local = text_of (expanded f.variables f.local);
-  remote = text_of (expanded f.variables f.remote);
+  local = text_given (expanded f.variables f.local);
+  remote = text_given (expanded f.variables f.remote);
   variables = f.variables;
   groups = f.groups;
   assets = map (λ row. asset_from row (bytes_of files folder row)) f.assets;
@@ -80,6 +83,7 @@ project_of f files folder = record {
 abbrev pub tree_of : List ℕ → Option Members
 tree_of bytes = if is_utf8 bytes then parse_document bytes else None
 
+-- a value, unless there is a fault
 abbrev pub unless_fault : {A : Type 0} → Option ProjectErr → A → Result A ProjectErr
 unless_fault None value = Ok value
 unless_fault (Some fault) value = Err fault
@@ -88,14 +92,17 @@ unless_fault (Some fault) value = Err fault
 unfoldable pub reply_of_file : List MemFile → List ℕ → ProjectFile → Result Project ProjectErr
 reply_of_file files folder f = unless_fault (asset_fault (map (bytes_of files folder) f.assets)) (project_of f files folder)
 
+-- an answer, unless a fault comes before it
 abbrev pub reply_after : Option ProjectErr → Result Project ProjectErr → Result Project ProjectErr
 reply_after None reply = reply
 reply_after (Some fault) reply = Err fault
 
+-- what a document stands for, where there is one
 abbrev pub reply_of_tree : List MemFile → List ℕ → Option Members → Result Project ProjectErr
 reply_of_tree files folder None = Err BadToml
 reply_of_tree files folder (Some tree) = reply_after (tree_fault tree) (reply_of_file files folder (file_of tree))
 
+-- what the project file's bytes stand for, where there is one
 abbrev pub reply_of_bytes : List MemFile → List ℕ → Option (List ℕ) → Result Project ProjectErr
 reply_of_bytes files folder None = Err NoProject
 reply_of_bytes files folder (Some bytes) = reply_of_tree files folder (tree_of bytes)

@@ -13,6 +13,7 @@ use Rattle.addr_project_rows.specs.Fields.{field, required, text_where, text_of,
 use Rattle.addr_project_rows.specs.Variables.{variable_of}
 use Rattle.addr_project.specs.Modes.{mode_of}
 
+-- the group of members that are all good
 abbrev pub group_from : Option (List ℕ) → Option Mode → Option Bool → Option Bool → Option Group
 group_from (Some name) (Some mode) (Some fixed) (Some remote) = Some (record { name = name; mode = mode; fixed = fixed; remote = remote })
 group_from _ _ _ _ = None
@@ -22,31 +23,35 @@ abbrev pub group_of : Data → Option Group
 group_of (table ms) = group_from (required (codes "name") ms) (field mode_of (Some Together) (codes "mode") ms) (field as_bool (Some false) (codes "fixed") ms) (field as_bool (Some false) (codes "remote") ms)
 group_of _ = None
 
-abbrev pub asset_from : Option Guid → Option (List ℕ) → Option (List ℕ) → Option (List Guid) → Option AssetRow
-asset_from (Some guid) (Some kind) (Some file) (Some refs) = Some (record { guid = guid; kind = kind; file = file; refs = refs })
-asset_from _ _ _ _ = None
+-- the row of members that are all good
+abbrev pub asset_row_from : Option Guid → Option (List ℕ) → Option (List ℕ) → Option (List Guid) → Option AssetRow
+asset_row_from (Some guid) (Some kind) (Some file) (Some refs) = Some (record { guid = guid; kind = kind; file = file; refs = refs })
+asset_row_from _ _ _ _ = None
 
 -- a row `[[asset]]`
 abbrev pub asset_of : Data → Option AssetRow
-asset_of (table ms) = asset_from (field guid_of None (codes "guid") ms) (required (codes "type") ms) (field (text_where is_file_name) None (codes "file") ms) (field (list_of guid_of) (Some []) (codes "refs") ms)
+asset_of (table ms) = asset_row_from (field guid_of None (codes "guid") ms) (required (codes "type") ms) (field (text_where is_file_name) None (codes "file") ms) (field (list_of guid_of) (Some []) (codes "refs") ms)
 asset_of _ = None
 
-abbrev pub entry_from : Option Guid → Option (List ℕ) → Option (List ℕ) → Option (List (List ℕ)) → Option EntryRow
-entry_from (Some guid) (Some group) (Some address) (Some labels) = Some (record { guid = guid; group = group; address = address; labels = labels })
-entry_from _ _ _ _ = None
+-- the row of members that are all good
+abbrev pub entry_row_from : Option Guid → Option (List ℕ) → Option (List ℕ) → Option (List (List ℕ)) → Option EntryRow
+entry_row_from (Some guid) (Some group) (Some address) (Some labels) = Some (record { guid = guid; group = group; address = address; labels = labels })
+entry_row_from _ _ _ _ = None
 
 -- a row `[[entry]]`
 abbrev pub entry_of : Data → Option EntryRow
-entry_of (table ms) = entry_from (field guid_of None (codes "guid") ms) (required (codes "group") ms) (required (codes "address") ms) (field labels_of (Some []) (codes "labels") ms)
+entry_of (table ms) = entry_row_from (field guid_of None (codes "guid") ms) (required (codes "group") ms) (required (codes "address") ms) (field labels_of (Some []) (codes "labels") ms)
 entry_of _ = None
 
--- the file's top: its version, its table `[profile]`, and the rows of an array of tables
+-- the version at a file's top
 abbrev pub version_of : Members → Option (List ℕ)
 version_of tree = field (text_where is_version) (Some (codes "2021.3.0f1")) (codes "version") tree
 
+-- the table `[profile]`, which has no members where it is absent
 abbrev pub profile_of : Members → Option Members
 profile_of tree = field as_table (Some no_members) (codes "profile") tree
 
+-- the rows of an array of tables, of which there are none where it is absent
 abbrev pub rows_at : List ℕ → Members → Option (List Data)
 rows_at key tree = field rows_of (Some []) key tree
 
@@ -54,10 +59,11 @@ rows_at key tree = field rows_of (Some []) key tree
 abbrev pub profile_text : List ℕ → Members → Option (List ℕ)
 profile_text key profile = field text_of (Some key) key profile
 
--- the members of the profile, and the rows of a table; they count only where they are good
+-- the members of the profile; they count only where it is a table
 abbrev pub profile : Members → Members
 profile tree = unwrap_or (profile_of tree) no_members
 
+-- the rows of a table; they count only where it is an array
 abbrev pub rows : List ℕ → Members → List Data
 rows key tree = unwrap_or (rows_at key tree) []
 

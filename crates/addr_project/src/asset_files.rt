@@ -1,10 +1,14 @@
 // The files of the assets, read row by row. A file that is missing is told before any size, so after the first size that
-// passes a limit the rest is read only to see that it is there, and let go.
-ghost use Rattle.std.specs.Prelude.{◌≡◌, ◌<◌, ◌≤◌, ◌+◌, ◌^◌, Some, IfOk, IfSome, IfNone, string_bytes, vec_len};
+// passes a limit the rest is read only to see that it is there, and let go; a file that was read before is there.
+ghost use Rattle.std.specs.BTreeSet.{contains_by};
+ghost use Rattle.std.specs.Cmp.Lexicographic.{slice_cmp};
+ghost use Rattle.std.specs.Option.{is_some};
+ghost use Rattle.std.specs.Ordering.{nat_cmp};
+ghost use Rattle.std.specs.Prelude.{◌≡◌, ◌<◌, ◌≤◌, ◌+◌, ◌^◌, ◌&&◌, Some, IfOk, IfSome, IfNone, string_bytes, vec_len};
 ghost use Rattle.addr_project.specs.AssetFiles.{ReadsAssets, KeepsRows};
 ghost use Rattle.addr_project.specs.Loading.{Adds};
 ghost use Rattle.addr_project.specs.Reading.{path, asset_from, over_after};
-ghost use Rattle.addr_project.specs.Causes.{HasCause};
+ghost use Rattle.addr_project.specs.Causes.{FaultHasCause};
 
 use crate::counts::over;
 use crate::error::ProjectErr;
@@ -15,6 +19,7 @@ use crate::rows::AssetRow;
 use addr_base::{Depot, Items, NoMemory, Text};
 use addr_project_rows::row_number;
 use std::alloc::Global;
+use std::collections::BTreeSet;
 
 /// The most bytes of an asset's file.
 pub const MOST_ASSET_BYTES: u64 = 67_108_864;
@@ -41,17 +46,28 @@ pub fn read_assets<D: Depot>(
     ensures told { IfSome (D.files depot.old) (λ files. ReadsAssets files folder.now rows.now result) }
     ensures kept { IfOk result (KeepsRows rows.now) }
     ensures same { D.files depot.new ≡ D.files depot.old }
-    ensures cause { HasCause (D.faults depot.old) (D.faults depot.new) result }
+    ensures cause { FaultHasCause (D.faults depot.old) (D.faults depot.new) result }
 {
     let mut loaded = Loaded {
         assets: Items::new(alloc),
         total: 0,
         over: None,
     };
+    let mut seen = BTreeSet::new(alloc);
     for (i, row) in rows.iter().enumerate() {
-        let name = path_of(alloc, folder, row.file.as_str())?;
+        let file = row.file.as_str();
+        if is_known(&loaded, &seen, file) {
+            continue;
+        }
+        let name = path_of(alloc, folder, file)?;
         match depot.read(alloc, name.as_str())? {
-            Some(bytes) => loaded = load(alloc, loaded, row, bytes)?,
+            Some(bytes) => {
+                loaded = load(alloc, loaded, row, bytes)?;
+                match seen.insert(file) {
+                    Ok(_) => {}
+                    Err(_) => return Err(ProjectErr::NoMemory),
+                }
+            }
             None => return Err(ProjectErr::MissingFile {
                 row: row_number(i)?,
             }),
@@ -61,6 +77,13 @@ pub fn read_assets<D: Depot>(
         Some(fault) => Err(fault),
         None => Ok(loaded.assets),
     }
+}
+
+/// Nothing more is kept, and the file is there, since it was read before.
+fn is_known(loaded: &Loaded, seen: &BTreeSet<&str>, file: &str) -> bool
+    ensures { result ≡ (is_some loaded.now.over && contains_by (λ key. slice_cmp nat_cmp file.now key.now) seen.now) }
+{
+    loaded.over.is_some() && seen.contains(file)
 }
 
 /// One more file.

@@ -1,7 +1,7 @@
 // The bytes of a project file as a TOML document.
 ghost use Rattle.std.specs.Prelude.{◌≡◌, ◌⊎◌, Some, None, IfOk, IfErr, IfSome};
 ghost use Rattle.toml.specs.View.{table_view};
-ghost use Rattle.addr_project.specs.Causes.{HasCause};
+ghost use Rattle.addr_project.specs.Causes.{FaultHasCause};
 ghost use Rattle.addr_project.specs.Reading.{tree_of};
 ghost use Rattle.addr_project.specs.TreeReading.{ReadsTree};
 ghost use Rattle.addr_project.specs.declared.error.ProjectErr.TheVariants as faults;
@@ -34,7 +34,7 @@ pub fn parse(alloc: Global, bytes: &[u8]) -> Result<Table, ProjectErr>
 pub fn read_tree<D: Depot>(alloc: Global, depot: &mut D, folder: &str) -> Result<Table, ProjectErr>
     ensures told { IfSome (D.files depot.old) (λ files. ReadsTree files folder.now result) }
     ensures same { D.files depot.new ≡ D.files depot.old }
-    ensures cause { HasCause (D.faults depot.old) (D.faults depot.new) result }
+    ensures cause { FaultHasCause (D.faults depot.old) (D.faults depot.new) result }
 {
     let name = path_of(alloc, folder, "project.toml")?;
     match depot.read(alloc, name.as_str())? {

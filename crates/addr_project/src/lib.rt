@@ -25,7 +25,7 @@ mod rows;
 mod tests;
 mod text_faults;
 
-pub use addr_expansion::{ExpandErr, expand};
+pub use addr_expansion::ExpandErr;
 pub use error::ProjectErr;
 pub use laws::folder_has_one_answer;
 pub use limit::{Limit, Part};

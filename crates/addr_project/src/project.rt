@@ -1,6 +1,6 @@
 // The type of a project. Its fields are private, so that each value keeps what the tests of reading found out.
 ghost use Rattle.std.specs.Prelude.{◌≡◌, ◌⊎◌, Ok, Err, IfOk, IfErr, IfSome};
-ghost use Rattle.addr_project.specs.Causes.{HasCause};
+ghost use Rattle.addr_project.specs.Causes.{FaultHasCause};
 ghost use Rattle.addr_expansion.specs.Expansion.{expanded};
 ghost use Rattle.addr_project.specs.Kept.{IsKept};
 ghost use Rattle.addr_project.specs.Reading.{Reads};
@@ -61,7 +61,7 @@ impl Project {
     pub fn read<D: Depot>(alloc: Global, depot: &mut D, folder: &str) -> Result<Project, ProjectErr>
         ensures told { IfSome (D.files depot.old) (λ files. Reads files folder.now result) }
         ensures same { D.files depot.new ≡ D.files depot.old }
-        ensures cause { HasCause (D.faults depot.old) (D.faults depot.new) result }
+        ensures cause { FaultHasCause (D.faults depot.old) (D.faults depot.new) result }
     {
         let tree = read_tree(alloc, depot, folder)?;
         let parts = match parts_of(alloc, &tree) {

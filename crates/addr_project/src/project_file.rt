@@ -1,5 +1,5 @@
 // The tables of a project file: first that each member of the top and the profile is good, then the rows, table by table.
-ghost use Rattle.std.specs.Prelude.{◌≡◌, ◌⊎◌, List, ℕ, Option, Some, None, map, IfOk, IfErr, codes};
+ghost use Rattle.std.specs.Prelude.{◌≡◌, ◌⊎◌, List, ℕ, Option, Some, None, map, IfOk, IfErr};
 ghost use Rattle.std.specs.List.{filter_map};
 ghost use Rattle.std.specs.Option.{option_map, option_copied};
 ghost use Rattle.toml.specs.View.{view, table_view};
@@ -35,11 +35,7 @@ fn version_at(tree: &Table) -> Option<&str>
 {
     match fields::member(tree, "version") {
         Some(value) => match value.as_str() {
-            Some(text) => if texts::is_version(text) {
-                Some(text)
-            } else {
-                None
-            },
+            Some(text) => fields::text_if(text, texts::is_version(text)),
             None => None,
         },
         None => Some("2021.3.0f1"),
@@ -59,27 +55,16 @@ fn profile_at(tree: &Table) -> Option<Option<&Table>>
     }
 }
 
-fn local_at<'a>(profile: Option<&'a Table>) -> Option<&'a str>
-    ensures { option_copied result ≡ profile_text (codes "local") (members_in profile.entry) }
+/// A text of the profile, whose default is its own name.
+fn profile_text_at<'a>(profile: Option<&'a Table>, key: &'a str) -> Option<&'a str>
+    ensures { option_copied result ≡ profile_text key.now (members_in profile.entry) }
 {
     match profile {
-        Some(table) => match fields::member(table, "local") {
+        Some(table) => match fields::member(table, key) {
             Some(value) => fields::as_text(value),
-            None => Some("local"),
+            None => Some(key),
         },
-        None => Some("local"),
-    }
-}
-
-fn remote_at<'a>(profile: Option<&'a Table>) -> Option<&'a str>
-    ensures { option_copied result ≡ profile_text (codes "remote") (members_in profile.entry) }
-{
-    match profile {
-        Some(table) => match fields::member(table, "remote") {
-            Some(value) => fields::as_text(value),
-            None => Some("remote"),
-        },
-        None => Some("remote"),
+        None => Some(key),
     }
 }
 
@@ -122,10 +107,10 @@ fn head_of(tree: &Table) -> Result<Head<'_>, ProjectErr>
     let Some(entries) = rows_at(tree, "entry") else {
         return Err(bad_field(Part::Project));
     };
-    let Some(local) = local_at(profile) else {
+    let Some(local) = profile_text_at(profile, "local") else {
         return Err(bad_field(Part::Profile));
     };
-    let Some(remote) = remote_at(profile) else {
+    let Some(remote) = profile_text_at(profile, "remote") else {
         return Err(bad_field(Part::Profile));
     };
     Ok(Head {

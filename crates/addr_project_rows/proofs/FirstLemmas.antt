@@ -1,5 +1,5 @@
--- First rows in a loop: what one more row adds, and that a first row of the front is the first row of all.
-use Rattle.std.proofs.Common.{◌≡◌, ℕ, ◌+◌, ◌<◌, Bool, true, false, cond, List, [], ◌∷◌, ◌++◌, length, get_or, take, drop, Option, Some, None, refl, sym, ap, ◌∙◌, arith, append_assoc, take-append-drop}
+-- First rows in a loop: what one more row adds, that a first row of the front is the first row of all, and what a first row is.
+use Rattle.std.proofs.Common.{◌≡◌, ℕ, suc, ◌+◌, ◌<◌, Bool, true, false, cond, List, [], ◌∷◌, ◌++◌, length, get_or, take, drop, Option, Some, None, refl, sym, ap, subst, ◌∙◌, arith, append_assoc, take-append-drop, length-append}
 use Rattle.std.proofs.lemmas.List.{append-nil, take_more, length-take-le}
 use Rattle.std.specs.Option.{option_or}
 use Rattle.addr_project_rows.specs.Firsts.{first_from, first_where, number_if}
@@ -57,3 +57,51 @@ module _ {A : Type 0} (test : List A → A → Bool) where
   first_where-found xs i d small none here =
       let len : length (take i xs) ≡ i = length-take-le i xs (omega arith) in
       first_from-found (number_if test) xs i d i small none (ap (λ b. cond b (Some (length (take i xs))) None) here ∙ ap Some len)
+
+-- a row is the first that passes a test
+pub record IsFirst {A : Type 0} (test : List A → A → Bool) (before xs : List A) (k : ℕ) : Type 0 where
+  pub small : k < length xs
+  pub none : first_from (number_if test) before (take k xs) ≡ None
+  pub passes : (d : A) → test (before ++ take k xs) (get_or xs k d) ≡ true
+
+module _ {A : Type 0} (test : List A → A → Bool) where
+  first-here : (before : List A) (x : A) (xs : List A) → test before x ≡ true → IsFirst test before (x ∷ xs) 0
+  unfolding first_from
+  first-here before x xs is = record {
+    small = omega arith;
+    none = refl;
+    passes = λ d. ap (λ b. test b x) (append-nil before) ∙ is;
+  }
+
+  first-later : (before : List A) (x : A) (xs : List A) (k : ℕ) → test before x ≡ false → IsFirst test (before ++ x ∷ []) xs k → IsFirst test before (x ∷ xs) (suc k)
+  unfolding first_from
+  first-later before x xs k fails later = record {
+    small = omega (arith, later.small);
+    none = ap (λ b. option_or (cond b (Some (length before)) None) (first_from (number_if test) (before ++ x ∷ []) (take k xs))) fails ∙ later.none;
+    passes = λ d. ap (λ b. test b (get_or xs k d)) (sym (append_assoc before (x ∷ []) (take k xs))) ∙ later.passes d;
+  }
+
+  first-step : (before : List A) (x : A) (xs : List A) (n : ℕ)
+      → ((m : ℕ) → first_from (number_if test) (before ++ x ∷ []) xs ≡ Some m → (k : ℕ) × (m ≡ length (before ++ x ∷ []) + k) × IsFirst test (before ++ x ∷ []) xs k)
+      → (t : Bool) → test before x ≡ t → first_from (number_if test) before (x ∷ xs) ≡ Some n → (k : ℕ) × (n ≡ length before + k) × IsFirst test before (x ∷ xs) k
+  unfolding first_from
+  first-step before x xs n later true is found =
+      let here : Some (length before) ≡ Some n = sym (ap (λ b. option_or (cond b (Some (length before)) None) (first_from (number_if test) (before ++ x ∷ []) xs)) is) ∙ found in
+      let same : length before ≡ n = cc in
+      (0, omega (arith, same), first-here before x xs is)
+  first-step before x xs n later false is found =
+      let (k, place, first) = later n (sym (ap (λ b. option_or (cond b (Some (length before)) None) (first_from (number_if test) (before ++ x ∷ []) xs)) is) ∙ found) in
+      let long : length (before ++ x ∷ []) ≡ length before + 1 = length-append before (x ∷ []) in
+      (suc k, omega (arith, place, long), first-later before x xs k is first)
+
+  first_from-is : (before xs : List A) (n : ℕ) → first_from (number_if test) before xs ≡ Some n → (k : ℕ) × (n ≡ length before + k) × IsFirst test before xs k
+  unfolding first_from
+  first_from-is before [] n is = absurd (cc)
+  first_from-is before (x ∷ xs) n is = first-step before x xs n (first_from-is (before ++ x ∷ []) xs) (test before x) refl is
+
+  -- the first row that the test finds passes it, and none before it does
+  pub first_where-is : (xs : List A) (n : ℕ) → first_where test xs ≡ Some n → IsFirst test [] xs n
+  first_where-is xs n is =
+      let (k, place, first) = first_from-is [] xs n is in
+      let same : k ≡ n = omega (arith, place) in
+      subst (IsFirst test [] xs) same first

@@ -9,7 +9,7 @@ use Rattle.toml.specs.View.{view}
 use Rattle.toml.specs.declared.value.Value.{Value}
 use Rattle.addr_project_rows.specs.Fields.{first_bad, is_bad, all_of}
 use Rattle.addr_project_rows.specs.Readings.{RowsRead}
-use Rattle.addr_project_rows.proofs.FirstLemmas.{first_where-pass, first_where-found}
+use Rattle.addr_project_rows.proofs.FirstLemmas.{first_where-pass, first_where-found, first_where-is}
 
 module _ {A : Type 0} (read : Data → Option A) (ds : List Data) (i : ℕ) (d : Data) (small : i < length ds) (is : get_or ds i d ≡ d) where
   pub rows-more : (a : A) → read d ≡ Some a → filter_map read (take (i + 1) ds) ≡ filter_map read (take i ds) ++ a ∷ []
@@ -31,12 +31,17 @@ view-at vs i v small is = get_or-map view vs i v (view v) small ∙ ap view (sym
 pub views-small : (vs : List Value) (i : ℕ) → i < length vs → i < length (map view vs)
 views-small vs i small = rw (length-map vs view) small
 
+-- no row before the first bad one is bad
+pub front-good : {A : Type 0} (read : Data → Option A) (ds : List Data) (bad : Option ℕ) → first_bad read ds ≡ bad → first_bad read (take (unwrap_or bad (length ds)) ds) ≡ None
+front-good read ds None is = ap (first_bad read) (take_all (length ds) ds (omega arith)) ∙ is
+front-good read ds (Some n) is = (first_where-is (λ before d. is_bad read d) ds n is).none
+
 -- what a reader's answer says of all rows
 module _ {A : Type 0} (read : Data → Option A) (ds : List Data) (found : List A) (bad : Option ℕ) (answer : RowsRead read ds found bad) where
   pub all-found : bad ≡ None → found ≡ filter_map read ds
   all-found none =
       answer.found_is
-      ∙ ap (λ n. filter_map read (take (unwrap_or n (length ds)) ds)) none
+      ∙ ap (λ n. filter_map read (take (unwrap_or n (length ds)) ds)) (sym answer.bad_is ∙ none)
       ∙ ap (filter_map read) (take_all (length ds) ds (omega arith))
 
   pub all-read : bad ≡ None → all_of read ds ≡ Some found

@@ -91,6 +91,7 @@ guid_spelled s (Err _) = None
 abbrev pub guid_from : List ℕ → Option Guid
 guid_from s = guid_spelled s (decode_sized s 16)
 
+-- the GUID that a text spells
 abbrev pub guid_of : Data → Option Guid
 guid_of (string s) = guid_from s
 guid_of _ = None
@@ -107,15 +108,17 @@ first_bad read ds = first_where (λ before d. is_bad read d) ds
 unfoldable pub all_of : {A : Type 0} → (Data → Option A) → List Data → Option (List A)
 all_of read ds = if is_none (first_bad read ds) then Some (filter_map read ds) else None
 
--- an array of rows, and of what they stand for
+-- the values of an array
 abbrev pub rows_of : Data → Option (List Data)
 rows_of (array ds) = Some (items_list ds)
 rows_of _ = None
 
+-- what the values of an array stand for, where there is an array
 abbrev pub all_in : {A : Type 0} → (Data → Option A) → Option (List Data) → Option (List A)
 all_in read None = None
 all_in read (Some ds) = all_of read ds
 
+-- an array whose values each stand for something
 abbrev pub list_of : {A : Type 0} → (Data → Option A) → Data → Option (List A)
 list_of read d = all_in read (rows_of d)
 
@@ -128,5 +131,6 @@ with_text text (t ∷ ts) = match_ordering (slice_cmp nat_cmp text t) (text ∷ 
 abbrev pub ascending : List (List ℕ) → List (List ℕ)
 ascending texts = fold (λ sorted text. with_text text sorted) [] texts
 
+-- an array of texts, in ascending order, each once
 abbrev pub labels_of : Data → Option (List (List ℕ))
 labels_of d = option_map ascending (list_of text_of d)

@@ -1,5 +1,5 @@
 -- First rows: the first row that a test finds, where the test sees the rows before it.
-use Rattle.std.specs.Prelude.{ℕ, ◌==◌, List, [], ◌∷◌, ◌++◌, length, Bool, if◌then◌else◌, Option, Some, None}
+use Rattle.std.specs.Prelude.{ℕ, List, [], ◌∷◌, ◌++◌, length, Bool, if◌then◌else◌, Option, Some, None}
 use Rattle.std.specs.List.{list_any}
 use Rattle.std.specs.Option.{option_or}
 use Rattle.std.specs.Str.{bytes_eq}
@@ -34,10 +34,6 @@ is_among keys key = list_any (λ k. bytes_eq k key) keys
 -- the first key that is one of those before it
 abbrev pub first_repeat : List (List ℕ) → Option ℕ
 first_repeat keys = first_where is_among keys
-
--- a number is one of some numbers
-abbrev pub is_number_among : List ℕ → ℕ → Bool
-is_number_among numbers number = list_any (λ n. n == number) numbers
 
 -- the place of a key among the keys
 abbrev pub place_of : List (List ℕ) → List ℕ → Option ℕ

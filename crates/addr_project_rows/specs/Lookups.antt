@@ -6,6 +6,7 @@ use Rattle.std.specs.Ordering.{nat_cmp}
 use Rattle.std.specs.Cmp.Lexicographic.{slice_cmp}
 use Rattle.addr_project_rows.specs.Firsts.{place_of}
 
+-- the keys behind their references
 abbrev pub keys_in : List (Bor (List ℕ)) → List (List ℕ)
 keys_in keys = map (λ key. key.now) keys
 

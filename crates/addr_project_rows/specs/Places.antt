@@ -10,7 +10,7 @@ use Rattle.addr_project_rows.specs.Lookups.{keys_in}
 abbrev pub index_keys : Index → List (List ℕ)
 index_keys index = keys_in index.keys.items
 
--- the index of some keys of which none is repeated, or the first that is
+-- the index of some keys of which none is repeated, or the first row whose key repeats an earlier one
 abbrev pub Indexes : List (List ℕ) → Indexed → Type 0
 Indexes keys (Whole index) = (first_repeat keys ≡ None) × (index_keys index ≡ keys)
 Indexes keys (Repeat row) = first_repeat keys ≡ Some row

@@ -6,6 +6,7 @@ use Rattle.addr_base.specs.declared.var.Var.{Var}
 use Rattle.addr_project_rows.specs.Fields.{field, text_where, is_within, is_name}
 use Rattle.addr_project_rows.specs.Firsts.{is_among}
 
+-- the variable of a name and a value, where both are good
 abbrev pub variable_from : Option (List ℕ) → Option (List ℕ) → Option Var
 variable_from (Some name) (Some value) = Some (record { name = name; value = value })
 variable_from _ _ = None
@@ -20,5 +21,6 @@ abbrev pub is_bad_among : List Var → Option Var → Bool
 is_bad_among before None = true
 is_bad_among before (Some v) = is_among (map (λ w. w.name) before) v.name
 
+-- a row is a bad variable among the rows before it
 unfoldable pub is_bad_variable : List Data → Data → Bool
 is_bad_variable before d = is_bad_among (filter_map variable_of before) (variable_of d)

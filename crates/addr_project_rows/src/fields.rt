@@ -1,6 +1,6 @@
 // Members of a table, each read by what it stands for: a reader answers None for another kind and for a value outside its
 // values, and the default where the member is absent.
-ghost use Rattle.std.specs.Prelude.{◌≡◌, List, ℕ, Bool, map, Option, Some, None, IfOk};
+ghost use Rattle.std.specs.Prelude.{◌≡◌, List, ℕ, Bool, if◌then◌else◌, map, Option, Some, None, IfOk};
 ghost use Rattle.std.specs.Option.{option_map, option_copied};
 ghost use Rattle.toml.specs.Data.{Data, Members, get_member, as_bool, as_table};
 ghost use Rattle.toml.specs.View.{view, table_view};
@@ -17,15 +17,18 @@ pub fn member<'a>(table: &'a Table, key: &str) -> Option<&'a Value>
     table.get(key)
 }
 
+/// The text, where it is good.
+pub fn text_if(text: &str, good: bool) -> Option<&str>
+    ensures { option_copied result ≡ (if good then Some text.now else None) }
+{
+    if good { Some(text) } else { None }
+}
+
 pub fn as_text(value: &Value) -> Option<&str>
     ensures { option_copied result ≡ text_of (view value.now) }
 {
     match value.as_str() {
-        Some(text) => if texts::is_within(text, 1, 255) {
-            Some(text)
-        } else {
-            None
-        },
+        Some(text) => text_if(text, texts::is_within(text, 1, 255)),
         None => None,
     }
 }
@@ -45,11 +48,7 @@ pub fn value_at<'a>(table: &'a Table, key: &str) -> Option<&'a str>
     ensures { option_copied result ≡ field (text_where (is_within 0 255)) None key.now (table_view table.now) }
 {
     match member(table, key)?.as_str() {
-        Some(text) => if texts::is_within(text, 0, 255) {
-            Some(text)
-        } else {
-            None
-        },
+        Some(text) => text_if(text, texts::is_within(text, 0, 255)),
         None => None,
     }
 }
@@ -59,11 +58,7 @@ pub fn name_at<'a>(table: &'a Table, key: &str) -> Option<&'a str>
     ensures { option_copied result ≡ field (text_where is_name) None key.now (table_view table.now) }
 {
     match member(table, key)?.as_str() {
-        Some(text) => if texts::is_variable_name(text) {
-            Some(text)
-        } else {
-            None
-        },
+        Some(text) => text_if(text, texts::is_variable_name(text)),
         None => None,
     }
 }

@@ -2,7 +2,7 @@
 //!
 //! Promise: each reader answers exactly what a member or a row stands for (`specs/Fields.antt`, `specs/Variables.antt`); what
 //! reads a table answers its rows up to the first bad one (`specs/Readings.antt`); an index has the place of each key, or the
-//! first key that is repeated (`specs/Places.antt`).
+//! first row whose key repeats an earlier one (`specs/Places.antt`).
 //! Units: lengths in bytes; rows count from 0. Start: `specs/Fields.antt`, then `src/fields.rt`.
 #![tactic(auto)]
 

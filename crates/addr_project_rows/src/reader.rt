@@ -26,7 +26,7 @@ pub trait Row {
         ensures { IfOk result (λ found. found ≡ row_of (view row.now)) };
 }
 
-/// The rows up to the first bad one, and its number.
+/// The rows up to the first that stands for nothing, and the number of the first bad one.
 #[derive(Drop)]
 pub struct Rows<T> {
     pub found: Items<T>,
@@ -92,7 +92,7 @@ pub fn list_at<T: Row + Drop>(
     items_read::<T>(alloc, rows)
 }
 
-/// Reads variables up to the first that is bad or repeats a name.
+/// Reads variables up to the first that stands for nothing. The bad one is the first that does, or repeats a name.
 pub fn variables_read(alloc: Global, rows: &[Value]) -> Result<Rows<Var>, NoMemory>
     ensures { IfOk result (λ r. VariablesRead (map view rows.now) r.found r.bad) }
 {

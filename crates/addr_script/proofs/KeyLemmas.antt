@@ -8,7 +8,7 @@ use Rattle.std.specs.List.{onto_first, slice_split, list_all, AllByRecursion, jo
 use Rattle.std.specs.Str.{IsUtf8}
 use Rattle.addr_base.specs.Tokens.{token_of, is_token_byte, ReadsToken}
 use Rattle.addr_base.proofs.TokenLemmas.{token_bytes_stand}
-use Rattle.addr_script.specs.Commands.{keys_field, AreTexts}
+use Rattle.addr_script.specs.Commands.{asked_keys_field, AreTexts}
 use Rattle.addr_fields.specs.Fields.{has_byte, IsCut}
 
 abbrev pub pieces : List ℕ → List (List ℕ)
@@ -40,15 +40,15 @@ free_of_comma (b ∷ bytes) all =
 token_is_free : (text : List ℕ) → IsUtf8 text → has_byte 44 (token_of text) ≡ false
 token_is_free text utf8 = free_of_comma (token_of text) (list_all-from_AllPass is_token_byte (token_of text) (token_bytes_stand text utf8))
 
-keys_pieces : (key : List ℕ) (keys : List (List ℕ)) → AllByRecursion IsUtf8 (key ∷ keys) → pieces (keys_field (key ∷ keys)) ≡ map token_of (key ∷ keys)
+keys_pieces : (key : List ℕ) (keys : List (List ℕ)) → AllByRecursion IsUtf8 (key ∷ keys) → pieces (asked_keys_field (key ∷ keys)) ≡ map token_of (key ∷ keys)
 keys_pieces key [] all = one_piece (token_of key) (token_is_free key all.0)
-keys_pieces key (next ∷ keys) all = pieces_first (token_of key) (keys_field (next ∷ keys)) (token_is_free key all.0) ∙ ap (λ rest. token_of key ∷ rest) (keys_pieces next keys all.1)
+keys_pieces key (next ∷ keys) all = pieces_first (token_of key) (asked_keys_field (next ∷ keys)) (token_is_free key all.0) ∙ ap (λ rest. token_of key ∷ rest) (keys_pieces next keys all.1)
 
-pub pieces_of_keys : (field : List ℕ) (keys : List (List ℕ)) → AreTexts keys → field ≡ keys_field keys → pieces field ≡ map token_of keys
+pub pieces_of_keys : (field : List ℕ) (keys : List (List ℕ)) → AreTexts keys → field ≡ asked_keys_field keys → pieces field ≡ map token_of keys
 pieces_of_keys field [] are e = absurd (are.0 refl)
 pieces_of_keys field (key ∷ keys) are e = ap pieces e ∙ keys_pieces key keys are.1
 
-pub field_of_pieces : (field : List ℕ) (keys : List (List ℕ)) → pieces field ≡ map token_of keys → field ≡ keys_field keys
+pub field_of_pieces : (field : List ℕ) (keys : List (List ℕ)) → pieces field ≡ map token_of keys → field ≡ asked_keys_field keys
 field_of_pieces field keys e = sym (join_with_byte-slice_split 44 field) ∙ ap (join_with_byte 44) e
 
 -- of an image that has a piece, that piece is the image of an element
@@ -67,7 +67,7 @@ push_filled [] x e = cc
 push_filled (y ∷ xs) x e = cc
 
 -- a piece that is no token is in no list of keys
-pub no_keys : (field : List ℕ) (before : List (List ℕ)) (piece : List ℕ) (after : List (List ℕ)) → pieces field ≡ before ++ piece ∷ after → ReadsToken piece None → (keys : List (List ℕ)) → AreTexts keys → field ≡ keys_field keys → ⊥
+pub no_keys : (field : List ℕ) (before : List (List ℕ)) (piece : List ℕ) (after : List (List ℕ)) → pieces field ≡ before ++ piece ∷ after → ReadsToken piece None → (keys : List (List ℕ)) → AreTexts keys → field ≡ asked_keys_field keys → ⊥
 no_keys field before piece after split wrong keys are e =
     let found = image_at token_of IsUtf8 keys are.1 before piece after (sym (pieces_of_keys field keys are e) ∙ split) in
     wrong found.0 found.1 found.2
@@ -82,7 +82,7 @@ key_step field keys rest token after key now cut each at key_is pushed =
     (whole ∙ sym (append_assoc (map token_of keys) (token_of key ∷ []) (pieces after)) ∙ ap (λ m. m ++ pieces after) (sym more), subst P (sym pushed) (each_push IsUtf8 keys key each key_is.0))
 
 -- the last key
-pub key_end : (field : List ℕ) (keys : List (List ℕ)) (rest key : List ℕ) (now : List (List ℕ)) → pieces field ≡ map token_of keys ++ pieces rest → AllByRecursion IsUtf8 keys → has_byte 44 rest ≡ false → IsUtf8 key × (rest ≡ token_of key) → now ≡ keys ++ key ∷ [] → AreTexts now × (field ≡ keys_field now)
+pub key_end : (field : List ℕ) (keys : List (List ℕ)) (rest key : List ℕ) (now : List (List ℕ)) → pieces field ≡ map token_of keys ++ pieces rest → AllByRecursion IsUtf8 keys → has_byte 44 rest ≡ false → IsUtf8 key × (rest ≡ token_of key) → now ≡ keys ++ key ∷ [] → AreTexts now × (field ≡ asked_keys_field now)
 key_end field keys rest key now cut each free key_is pushed =
     let first : pieces rest ≡ token_of key ∷ [] = one_piece rest free ∙ ap (λ t. t ∷ []) key_is.1 in
     let more : map token_of now ≡ map token_of keys ++ token_of key ∷ [] = ap (map token_of) pushed ∙ map-append token_of keys (key ∷ []) in
@@ -91,7 +91,7 @@ key_end field keys rest key now cut each free key_is pushed =
     (subst P (sym pushed) (push_filled keys key, each_push IsUtf8 keys key each key_is.0), field_of_pieces field now whole)
 
 -- two lists of keys that spell one field are equally long
-pub same_count : (field : List ℕ) (keys other : List (List ℕ)) → AreTexts keys → field ≡ keys_field keys → AreTexts other → field ≡ keys_field other → length keys ≡ length other
+pub same_count : (field : List ℕ) (keys other : List (List ℕ)) → AreTexts keys → field ≡ asked_keys_field keys → AreTexts other → field ≡ asked_keys_field other → length keys ≡ length other
 same_count field keys other are e are_other e_other =
     let same : map token_of keys ≡ map token_of other = sym (pieces_of_keys field keys are e) ∙ pieces_of_keys field other are_other e_other in
     sym (length-map keys token_of) ∙ ap length same ∙ length-map other token_of

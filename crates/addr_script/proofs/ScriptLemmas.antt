@@ -4,7 +4,8 @@ use Rattle.std.proofs.lemmas.Bool.{false≢true}
 use Rattle.std.proofs.lemmas.List.{length-map, take_at, take-append-drop, length-take-le}
 use Rattle.addr_script.specs.Commands.{spell, IsCommand}
 use Rattle.addr_fields.specs.Lines.{lines_of}
-use Rattle.addr_script.specs.Scripts.{AreCommands, IsScript, IsFirstBad, IsBadFrom, IsLimit, HasLimit, ReadsFrom, ReadsScript, limit_lines}
+use Rattle.addr_script.specs.ScriptParts.{AreCommands, IsBadFrom, HasLimit, ReadsFrom}
+use Rattle.addr_script.specs.Scripts.{IsScript, IsFirstBad, IsLimit, ReadsScript, limit_lines}
 use Rattle.addr_script.specs.declared.error.ScriptErr.{ScriptErr}
 use Rattle.addr_script.specs.declared.error.ScriptErr.TheVariants.{Line, NoMemory}
 use Rattle.addr_script.specs.declared.command.Command.{Command}
@@ -22,7 +23,7 @@ no_limit_line (Take worker) n e = let same : 116 ≡ 108 = cc in let wrong : fal
 no_limit_line (Done worker b) n e = let same : 100 ≡ 108 = cc in let wrong : false ≡ true = ap (λ x. x == 108) same in false≢true wrong
 no_limit_line (Fail worker b cause) n e = let same : 102 ≡ 108 = cc in let wrong : false ≡ true = ap (λ x. x == 108) same in false≢true wrong
 
-no_limit_first : (commands : List Command) (n : ℕ) (more : List (List ℕ)) → map spell commands ≡ limit_lines (Some n) ++ more → ⊥
+pub no_limit_first : (commands : List Command) (n : ℕ) (more : List (List ℕ)) → map spell commands ≡ limit_lines (Some n) ++ more → ⊥
 no_limit_first [] n more e = absurd (cc)
 no_limit_first (command ∷ commands) n more e = no_limit_line command n (cc)
 

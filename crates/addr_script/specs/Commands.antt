@@ -24,11 +24,11 @@ kind_field None = codes "%*"
 kind_field (Some kind) = token_of kind
 
 -- the tokens of the keys, with a comma (44) between each two
-abbrev pub keys_field : List (List ℕ) → List ℕ
-keys_field keys = join_with_byte 44 (map token_of keys)
+abbrev pub asked_keys_field : List (List ℕ) → List ℕ
+asked_keys_field keys = join_with_byte 44 (map token_of keys)
 
 abbrev pub spell : Command → List ℕ
-spell (Load caller all mode kind keys) = codes "load " ++ (decimal caller ++ 32 ∷ (one_or_all all ++ 32 ∷ (mode_word mode ++ 32 ∷ (kind_field kind ++ 32 ∷ keys_field keys))))
+spell (Load caller all mode kind keys) = codes "load " ++ (decimal caller ++ 32 ∷ (one_or_all all ++ 32 ∷ (mode_word mode ++ 32 ∷ (kind_field kind ++ 32 ∷ asked_keys_field keys))))
 spell (Release caller op) = codes "release " ++ (decimal caller ++ 32 ∷ decimal op.0)
 spell (Status op) = codes "status " ++ decimal op.0
 spell (Count b) = codes "count " ++ decimal b.0
@@ -64,7 +64,3 @@ Spells line command = IsCommand command × (line ≡ spell command)
 abbrev pub ReadsCommand : List ℕ → Option Command → Type 0
 ReadsCommand line (Some command) = Spells line command
 ReadsCommand line None = (command : Command) → Spells line command → ⊥
-
--- the line of a load of one row under the first key that has any, of any type: its caller and the field of its keys
-abbrev pub IsLoadLine : List ℕ → ℕ → List ℕ → Type 0
-IsLoadLine line caller field = (caller < 2 ^ 32) × (line ≡ codes "load " ++ (decimal caller ++ 32 ∷ (codes "one first %* " ++ field)))

@@ -1,4 +1,5 @@
 pub mod Causes
 pub mod Commands
 pub mod Replies
+pub mod ScriptParts
 pub mod Scripts

@@ -8,6 +8,7 @@
 mod command;
 mod error;
 mod keys;
+mod laws;
 mod parser;
 mod reply;
 mod script;
@@ -15,6 +16,7 @@ mod script;
 pub use command::Command;
 pub use error::ScriptErr;
 pub use keys::key_list;
+pub use laws::script_laws;
 pub use parser::parse_command;
 pub use reply::{CauseText, Reply};
 pub use script::{Script, read_script};

@@ -7,7 +7,7 @@ ghost use Rattle.addr_base.specs.declared.ids.OpId.{OpId};
 ghost use Rattle.addr_locate.specs.declared.rows.Merge.TheVariants.{UseFirst};
 ghost use Rattle.addr_script.specs.Causes.{cause_text, IsGivenCause};
 ghost use Rattle.addr_script.specs.Commands.{ReadsCommand, Spells};
-ghost use Rattle.addr_script.specs.Commands.{IsLoadLine};
+ghost use Rattle.addr_script.specs.ScriptParts.{IsLoadLine};
 ghost use Rattle.addr_script.specs.declared.command.Command.TheVariants.{Load, Release, Status, Count, Close, Take, Done, Fail};
 
 use crate::command::Command;

@@ -1,7 +1,8 @@
 // A whole script. Lines are read from the front, and the first one that isn't in the grammar at its place ends the reading.
 ghost use Rattle.std.specs.Prelude.{◌≡◌, ◌≤◌, ◌+◌, ◌∷◌, [], ◌↔◌, ℕ, IsTrue, MatchOption, Some, length};
 ghost use Rattle.addr_fields.specs.Lines.{lines_of};
-ghost use Rattle.addr_script.specs.Scripts.{HasLimit, IsLimit, ReadsFrom, ReadsScript, limit_lines};
+ghost use Rattle.addr_script.specs.ScriptParts.{HasLimit, ReadsFrom};
+ghost use Rattle.addr_script.specs.Scripts.{IsLimit, ReadsScript, limit_lines};
 
 use crate::command::Command;
 use crate::error::ScriptErr;
@@ -10,7 +11,7 @@ use addr_base::Items;
 use addr_fields::{next_line, number_after};
 use std::alloc::Global;
 
-/// The most lines that a script may have, so that a line's number is small and a journal is soon full.
+/// The most lines that a script may have; a line's number then fits a u32.
 const MAX_LINES: u32 = 100_000;
 
 /// The most events that a journal may be opened for.

@@ -2,10 +2,12 @@ pub mod Loops
 pub mod FieldLemmas
 pub mod SeenLemmas
 pub mod KeyFacts
+pub mod TextLemmas
 pub mod Steps
 pub mod SectionLemmas
 pub mod RowLemmas
 pub mod WholeLemmas
+pub mod NamedLemmas
 pub mod WrittenLemmas
 pub mod BackLemmas
 pub mod DecodedLemmas

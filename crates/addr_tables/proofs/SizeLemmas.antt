@@ -1,4 +1,4 @@
--- The sizes of tables as sums over the rows, and of keys by their texts: what is measured is what is written.
+-- The sizes of tables as sums over the rows: what is measured is what is written.
 use Rattle.std.proofs.Common.{◌≡◌, ℕ, suc, ◌+◌, ◌*◌, ◌<◌, ◌^◌, ◌↔◌, ◌&&◌, nat_lt, IsTrue, true, false, List, [], ◌∷◌, ◌++◌, length, sum_by, refl, ap, ◌∙◌, arith, length-append}
 use Rattle.std.specs.List.{flat_map}
 use Rattle.std.specs.Int.{w32, to_le_bytes}
@@ -6,8 +6,7 @@ use Rattle.std.proofs.lemmas.Bool.{and_parts, ltb-true, lt-ltb}
 use Rattle.std.proofs.lemmas.List.Concat.{flat_map-cons, length-flat_map}
 use Rattle.std.proofs.lemmas.List.Sums.{sum_by-cons}
 use Rattle.addr_keys.specs.declared.key.Key.{Key}
-use Rattle.addr_keys.specs.declared.key.Key.TheVariants.{Text, Json}
-use Rattle.addr_keys.specs.Format.{key_text, is_ascii, utf16_bytes, short, long}
+use Rattle.addr_keys.specs.Format.{key_text}
 use Rattle.addr_tables.specs.Format.{bucket_numbers, field_numbers, bucket_table, entry_table}
 use Rattle.addr_tables.specs.Written.{key_bytes, buckets_from, extra_text, fields_from}
 use Rattle.addr_tables.specs.declared.parts.Bucket.{Bucket}
@@ -48,31 +47,6 @@ entry_table-size rows =
 
 pub extra_table-size : (rows : List EntryRow) → length (flat_map extra_text rows) ≡ sum_by extra_size rows
 extra_table-size rows = length-flat_map extra_text rows
-
--- ---- keys
-
-long-size : (body : List ℕ) → length (long body) ≡ 4 + length body
-long-size body = length-append (to_le_bytes w32 (length body)) body
-
-pub ascii-size : (t : List ℕ) → is_ascii t ≡ true → key_size (Text t) ≡ 5 + length t
-unfolding key_text
-ascii-size t plain = let size = long-size t in rw plain (omega (arith, size))
-
-pub wide-size : (t : List ℕ) → is_ascii t ≡ false → key_size (Text t) ≡ 5 + length (utf16_bytes t)
-unfolding key_text
-wide-size t plain = let size = long-size (utf16_bytes t) in rw plain (omega (arith, size))
-
-pub json-size : (assembly class t : List ℕ) → key_size (Json assembly class t) ≡ 7 + length assembly + length class + length (utf16_bytes t)
-unfolding key_text
-json-size assembly class t =
-    let size = long-size (utf16_bytes t) in
-    let inner = length-append (short class) (long (utf16_bytes t)) in
-    let outer = length-append (short assembly) (short class ++ long (utf16_bytes t)) in
-    omega (arith, size, inner, outer)
-
--- one more unit of so many
-pub counted : (count more left after whole : ℕ) → left ≡ suc after → saturated (count + left) ≡ saturated whole → more ≡ saturated (count + 1) → saturated (more + after) ≡ saturated whole
-counted count more left after whole len so_far is = omega (arith, len, so_far, is)
 
 -- ---- what is measured
 

@@ -8,12 +8,13 @@ use Rattle.std.proofs.lemmas.List.Concat.{flat_map-cons}
 use Rattle.base64.specs.GeneralPurpose.{decode_of, encode_of, IsBytes}
 use Rattle.base64.specs.Engines.{standard}
 use Rattle.base64.specs.declared.decode.DecodeError.{DecodeError}
-use Rattle.base64.proofs.EngineFacts.{IsAscii-encode_of, decode_of-encode_of, decode_of_strict}
+use Rattle.base64.proofs.EngineFacts.{decode_of-encode_of, decode_of_strict}
 use Rattle.addr_keys.proofs.PlaceLemmas.{IsBytes-append, four_bytes}
 use Rattle.addr_tables.specs.declared.error.TableErr.{TableErr}
 use Rattle.addr_tables.specs.Format.{table_of}
 use Rattle.addr_tables.specs.Faults.{◌>>=◌, bytes_or, text_bytes, numbers_of}
-use Rattle.addr_tables.specs.Rows.{AreNumbers, HoldsBytes}
+use Rattle.addr_tables.specs.Rows.{AreNumbers}
+use Rattle.addr_tables.proofs.TextLemmas.{decoded_is_bytes}
 
 -- the value of a step that did not fail
 pub bind_ok : {A B : Type 0} (r : Result A TableErr) (f : A → Result B TableErr) (y : B) → (r >>= f) ≡ Ok y → (x : A) × (r ≡ Ok x) × (f x ≡ Ok y)
@@ -48,15 +49,10 @@ pub text_taken : (which : ℕ) (text bytes : List ℕ) → IsBytes text → text
 unfolding text_bytes
 text_taken which text bytes fits e = decode_of_strict standard text bytes (refl, refl) fits (text_taken_by which (decode_of standard text) bytes e)
 
--- what a text encodes is bytes, and so is the text
-pub HoldsBytes-decoded : (which : ℕ) (text input bytes : List ℕ) → input ≡ text → decode_of standard input ≡ Ok bytes → input ≡ encode_of standard bytes → IsBytes bytes → HoldsBytes which text
+-- what a text encodes is bytes
+pub text_holds_bytes : (which : ℕ) (text bytes : List ℕ) → IsBytes text → text_bytes which text ≡ Ok bytes → IsBytes bytes
 unfolding text_bytes
-HoldsBytes-decoded which text input bytes same decoded spelled fits = (
-  subst IsBytes (sym spelled ∙ same) (λ i. let small = IsAscii-encode_of standard bytes i in omega arith),
-  λ other e. let known = text_taken_by which (decode_of standard text) other e in
-      let first : decode_of standard text ≡ Ok bytes = ap (decode_of standard) (sym same) ∙ decoded in
-      let equal : bytes ≡ other = cc in subst IsBytes equal fits,
-)
+text_holds_bytes which text bytes fits e = decoded_is_bytes standard text bytes fits (text_taken_by which (decode_of standard text) bytes e)
 
 pub text_again : (which : ℕ) (text bytes : List ℕ) → IsBytes bytes → text ≡ encode_of standard bytes → text_bytes which text ≡ Ok bytes
 unfolding text_bytes

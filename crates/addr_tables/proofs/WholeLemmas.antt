@@ -15,7 +15,7 @@ use Rattle.addr_tables.specs.declared.parts.Parts.{Parts}
 use Rattle.addr_tables.specs.Format.{bucket_table, entry_table, is_within}
 use Rattle.addr_tables.specs.Faults.{Gives, text_bytes, key_count, buckets_of, entries_of, parts_of, keys_read, entries_read, numbers_in, rows_read}
 use Rattle.addr_tables.specs.Rows.{IsPlaced, AreSpelled, AreTexts, StandFor}
-use Rattle.addr_tables.proofs.Steps.{bind_ok, ok_is, chosen, text_taken, text_again, IsBytes-table}
+use Rattle.addr_tables.proofs.Steps.{bind_ok, ok_is, chosen, text_taken, text_holds_bytes, text_again, IsBytes-table}
 use Rattle.addr_tables.proofs.SectionLemmas.{IsFew, bucket_table_taken, bucket_table_again, entry_table_taken, entry_table_again, key_count_taken, key_count_again}
 use Rattle.addr_tables.proofs.RowLemmas.{keys_again, keys_taken, all_keys, all_rows, entries_again, entries_taken}
 
@@ -51,17 +51,17 @@ parts_taken tables parts texts e =
     let g = bind_ok (entries_of c.0) _ parts f.2 in
     let made : Parts = record { keys = a.0; buckets = f.0; entries = g.0; extras = d.0 } in
     let t = chosen (eqb n.0 (length f.0)) (errors.Counts n.0 (length f.0)) made parts g.2 in
-    let keys = texts.0.1 a.0 a.1 in
-    let extras = texts.3.1 d.0 d.1 in
+    let keys = text_holds_bytes 0 tables.key a.0 texts.0 a.1 in
+    let extras = text_holds_bytes 3 tables.extra d.0 texts.3 d.1 in
     let count = key_count_taken a.0 n.0 keys n.1 in
-    let buckets = bucket_table_taken b.0 f.0 (texts.1.1 b.0 b.1) f.1 in
-    let entries = entry_table_taken c.0 g.0 (texts.2.1 c.0 c.1) g.1 in
+    let buckets = bucket_table_taken b.0 f.0 (text_holds_bytes 1 tables.bucket b.0 texts.1 b.1) f.1 in
+    let entries = entry_table_taken c.0 g.0 (text_holds_bytes 2 tables.entry c.0 texts.2 c.1) g.1 in
     subst (TakesParts tables) t.1 (record {
       spelled = record {
-        key = text_taken 0 tables.key a.0 texts.0.0 a.1;
-        bucket = text_taken 1 tables.bucket b.0 texts.1.0 b.1 ∙ ap (encode_of standard) buckets.spelled;
-        entry = text_taken 2 tables.entry c.0 texts.2.0 c.1 ∙ ap (encode_of standard) entries.spelled;
-        extra = text_taken 3 tables.extra d.0 texts.3.0 d.1;
+        key = text_taken 0 tables.key a.0 texts.0 a.1;
+        bucket = text_taken 1 tables.bucket b.0 texts.1 b.1 ∙ ap (encode_of standard) buckets.spelled;
+        entry = text_taken 2 tables.entry c.0 texts.2 c.1 ∙ ap (encode_of standard) entries.spelled;
+        extra = text_taken 3 tables.extra d.0 texts.3 d.1;
         count = count.0 ∙ ap (to_le_bytes w32) (eqb-true _ _ t.0);
         bytes = (keys, extras);
         numbers = (buckets.small, entries.small);
@@ -80,7 +80,7 @@ few_of_placed : (count : ℕ) (bs : List Bucket) → AllByRecursion (IsPlaced co
 few_of_placed count [] placed = tt
 few_of_placed count (b ∷ bs) placed = (placed.0.0, few_of_placed count bs placed.1)
 
-is_found : (tables : Tables) (rows : Rows) → AreTexts tables → rows_read tables ≡ Ok rows → StandFor tables rows
+pub is_found : (tables : Tables) (rows : Rows) → AreTexts tables → rows_read tables ≡ Ok rows → StandFor tables rows
 unfolding rows_read
 is_found tables rows texts e =
     let p = bind_ok (parts_of tables) _ rows e in
@@ -101,7 +101,7 @@ is_found tables rows texts e =
       entries = all_rows tables parts.extras (length k.0) parts.entries r.0 entries;
     })
 
-pub found_of : (tables : Tables) (r : Result Rows TableErr) → IfOk r (λ _. AreTexts tables) → Gives (λ x. x) r (rows_read tables) → IfOk r (λ rows. StandFor tables rows)
+pub found_of : (tables : Tables) (r : Result Rows TableErr) → AreTexts tables → Gives (λ x. x) r (rows_read tables) → IfOk r (λ rows. StandFor tables rows)
 found_of tables (Ok rows) texts given = is_found tables rows texts given
 found_of tables (Err e) texts given = tt
 

@@ -1,5 +1,5 @@
--- The four tables of a catalogue: how they are spelled, and the rows that they stand for. The rule is this project's profile
--- after Unity's ContentCatalogData; numbers have four bytes, the low one first.
+-- The four tables of a catalogue: how their numbers are spelled, which numbers name something, and when two keys are one. The
+-- rule is this project's profile after Unity's ContentCatalogData; numbers have four bytes, the low one first.
 use Rattle.std.specs.Prelude.{ℕ, ◌^◌, Bool, List, [], ◌∷◌, length, nat_lt, ◌&&◌, bytes_eq}
 use Rattle.std.specs.List.{flat_map}
 use Rattle.std.specs.Int.{w32, to_le_bytes}

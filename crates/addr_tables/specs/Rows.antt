@@ -14,7 +14,7 @@ use Rattle.addr_tables.specs.declared.parts.Bucket.{Bucket}
 use Rattle.addr_tables.specs.declared.parts.Fields.{Fields}
 use Rattle.addr_tables.specs.declared.parts.Parts.{Parts}
 use Rattle.addr_tables.specs.Format.{bucket_numbers, field_numbers, bucket_table, entry_table, nothing, is_within}
-use Rattle.addr_tables.specs.Faults.{text_bytes, row_of, numbers_in}
+use Rattle.addr_tables.specs.Faults.{row_of, numbers_in}
 
 -- a fact for each pair of two lists, which are equally long
 abbrev pub Beside : {A B : Type 0} → (A → B → Type 0) → List A → List B → Type 0
@@ -71,13 +71,9 @@ pub record AreSpelled (tables : Tables) (parts : Parts) : Type 0 where
   pub numbers : AreNumbers (flat_map bucket_numbers parts.buckets) × AreNumbers (flat_map field_numbers parts.entries)
   pub few : (length parts.buckets < 2 ^ 31) × (length parts.entries < 2 ^ 31)
 
--- the bytes of a text, and of what it encodes, are bytes
-abbrev pub HoldsBytes : ℕ → List ℕ → Type 0
-HoldsBytes which text = IsBytes text × ((bytes : List ℕ) → text_bytes which text ≡ Ok bytes → IsBytes bytes)
-
--- the four texts of tables are texts of bytes
+-- the four texts of tables are bytes
 abbrev pub AreTexts : Tables → Type 0
-AreTexts tables = HoldsBytes 0 tables.key × HoldsBytes 1 tables.bucket × HoldsBytes 2 tables.entry × HoldsBytes 3 tables.extra
+AreTexts tables = IsBytes tables.key × IsBytes tables.bucket × IsBytes tables.entry × IsBytes tables.extra
 
 -- the tables stand for the rows: bucket i's key is the key at bucket i's own offset
 pub record StandFor (tables : Tables) (rows : Rows) : Type 0 where

@@ -1,8 +1,10 @@
 // From the parts of tables to their rows: each bucket's key is looked up at the bucket's own offset, then each entry's
 // numbers are tested and its extra key is looked up. The order of the tests is the order of the faults.
-ghost use Rattle.std.specs.Prelude.{◌≡◌, ◌++◌, ◌∷◌, [], ℕ, ◌<◌, ◌^◌, List, length, vec_len, IfOk, OnOk, Ok, map};
+ghost use Rattle.std.specs.Prelude.{◌≡◌, ◌≢◌, ◌↔◌, ◌++◌, ◌∷◌, [], ℕ, ◌<◌, ◌^◌, List, length, vec_len, IfOk, Ok, Err, map};
 ghost use Rattle.addr_tables.specs.declared.rows.Rows.{Rows};
+ghost use Rattle.addr_tables.specs.declared.error.TableErr.TheVariants as errors;
 ghost use Rattle.addr_tables.specs.Rows.{AreTexts, StandFor};
+ghost use Rattle.base64.specs.GeneralPurpose.{IsBytes};
 ghost use Rattle.std.specs.List.{list_all};
 ghost use Rattle.addr_keys.specs.declared.key.Key.{Key};
 ghost use Rattle.addr_tables.specs.Format.{is_within};
@@ -10,7 +12,7 @@ ghost use Rattle.addr_tables.specs.Faults.{Gives, bucket_key, bucket_read, keys_
 ghost use Rattle.addr_tables.specs.Seen.{HasForms};
 
 use crate::error::TableErr;
-use crate::parts::{Bucket, Fields, Parts};
+use crate::parts::{Bucket, FIRST_NEGATIVE, Fields, NOTHING, Parts};
 use crate::rows::{EntryRow, Rows, Tables};
 use crate::sections::parts_of;
 use crate::seen::is_new;
@@ -19,17 +21,11 @@ use addr_keys::{Key, KeyErr, read_key};
 use std::alloc::Global;
 use std::collections::BTreeSet;
 
-/// The number that stands for -1, where a field names nothing.
-const NOTHING: u32 = u32::MAX;
-
-/// How many numbers aren't negative: those below 2^31.
-const NEGATIVE: u32 = 1 << 31;
-
 #[tactic(auto, unfolding(crate::specs::Format::is_within))]
 fn is_within(bound: u32, n: u32) -> bool
     ensures { result ≡ is_within bound n }
 {
-    n < bound && n < NEGATIVE
+    n < bound && n < FIRST_NEGATIVE
 }
 
 #[tactic(auto, using(crate::proofs::KeyFacts::writable_at), unfolding(crate::specs::Faults::bucket_key))]
@@ -43,7 +39,7 @@ fn bucket_key(
     ensures exact { (before : List Key) → HasForms seen.old before → length before ≡ place → Gives (λ k. k) result (bucket_key bytes.now before bucket.now) }
     ensures more { (before : List Key) → HasForms seen.old before → IfOk result (λ key. HasForms seen.new (before ++ key ∷ [])) }
 {
-    if bucket.offset >= NEGATIVE {
+    if bucket.offset >= FIRST_NEGATIVE {
         return Err(TableErr::Key { bucket: place });
     }
     match read_key(alloc, bytes, bucket.offset as usize) {
@@ -109,7 +105,7 @@ fn bad_field(tables: &Tables, keys: u32, fields: &Fields) -> Option<u8>
         Some(1)
     } else if fields.dep != NOTHING && !is_within(keys, fields.dep) {
         Some(2)
-    } else if fields.extra != NOTHING && fields.extra >= NEGATIVE {
+    } else if fields.extra != NOTHING && fields.extra >= FIRST_NEGATIVE {
         Some(4)
     } else if !is_within(keys, fields.primary) {
         Some(5)
@@ -211,8 +207,7 @@ fn bucket_numbers(bucket: Bucket) -> Items<u32>
 
 #[tactic(auto, unfolding(crate::specs::Faults::rows_read))]
 fn rows_of(alloc: Global, tables: &Tables) -> Result<Rows, TableErr>
-    ensures exact { Gives (λ rows. rows) result (rows_read tables.now) }
-    ensures range { OnOk result (AreTexts tables.now) }
+    ensures { Gives (λ rows. rows) result (rows_read tables.now) }
 {
     let parts = parts_of(alloc, tables)?;
     let keys = keys_of(alloc, &parts)?;
@@ -225,6 +220,20 @@ fn rows_of(alloc: Global, tables: &Tables) -> Result<Rows, TableErr>
     })
 }
 
+/// Nothing is done: that a text is bytes is known of its type.
+fn is_bytes(text: &[u8])
+    ensures { IsBytes text.now }
+{}
+
+fn are_texts(tables: &Tables)
+    ensures { AreTexts tables.now }
+{
+    is_bytes(tables.key.as_bytes());
+    is_bytes(tables.bucket.as_bytes());
+    is_bytes(tables.entry.as_bytes());
+    is_bytes(tables.extra.as_bytes());
+}
+
 /// The rows that the tables stand for. Bytes of the key and extra tables at which no offset points are passed over.
 pub fn decode(alloc: Global, tables: &Tables) -> Result<Rows, TableErr>
     // The tables stand for what is decoded.
@@ -233,6 +242,10 @@ pub fn decode(alloc: Global, tables: &Tables) -> Result<Rows, TableErr>
     ensures only { (rows : Rows) → StandFor tables.now rows → Gives (λ r. r) result (Ok rows) }
     // Which fault it is, where it is one.
     ensures exact { Gives (λ rows. rows) result (rows_read tables.now) }
+    // So tables stand for one list of rows or have a first fault, and never both; and no fault is want of memory.
+    ensures named { rows_read tables.now ≢ Err errors.NoMemory }
+    ensures law { (rows : Rows) → (StandFor tables.now rows ↔ (rows_read tables.now ≡ Ok rows)) }
 {
+    are_texts(tables);
     rows_of(alloc, tables)
 }

@@ -11,15 +11,12 @@ ghost use Rattle.addr_tables.specs.Faults.{rows_read};
 ghost use Rattle.addr_tables.specs.Rows.{StandFor};
 ghost use Rattle.addr_tables.specs.Written.{key_bytes, buckets_from, option_text, extra_text, fields_at, fields_from, written, CanEncode, IsExtraWritable, HasForm, IsGoodRow};
 
-use crate::parts::Fields;
+use crate::parts::{Fields, NOTHING};
 use crate::rows::{EntryRow, Rows, Tables};
 use addr_base::{Items, NoMemory, Text};
 use addr_keys::{Key, write_key};
 use base64::engine::general_purpose::STANDARD;
 use std::alloc::Global;
-
-/// The number that stands for -1, where a field names nothing.
-const NOTHING: u32 = u32::MAX;
 
 fn put_u32(into: &mut Vec<u8>, n: u32) -> Result<(), NoMemory>
     ensures { OnOk result (into.new.items ≡ into.old.items ++ to_le_bytes w32 n) }

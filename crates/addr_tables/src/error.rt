@@ -1,7 +1,6 @@
-// Why tables stand for no rows: the first test that fails, in the order of docs/formats/keys-and-tables.md.
+// Why tables can't be read: the first test that fails, in the order of docs/formats/keys-and-tables.md.
 ghost use Rattle.std.specs.Prelude.{◌≡◌};
 ghost use Rattle.addr_tables.specs.declared.error.TableErr.TheVariants as errors;
-ghost use Rattle.addr_tables.specs.Numbers.{error_number};
 
 use addr_base::NoMemory;
 use std::alloc::{AllocError, AllocFailed};
@@ -26,25 +25,6 @@ pub enum TableErr {
     /// No key can be read at the entry's offset of extra data.
     Extra { entry: u32 },
     NoMemory,
-}
-
-impl TableErr {
-    /// The number by which programs print the fault; 0 for want of memory.
-    pub fn number(&self) -> u8
-        ensures { result ≡ error_number self.now }
-    {
-        match self {
-            TableErr::NoMemory => 0,
-            TableErr::Base64 { .. } => 1,
-            TableErr::Short { .. } => 2,
-            TableErr::Counts { .. } => 3,
-            TableErr::Index { .. } => 4,
-            TableErr::Key { .. } => 5,
-            TableErr::Trailing { .. } => 6,
-            TableErr::Place { .. } => 7,
-            TableErr::Extra { .. } => 8,
-        }
-    }
 }
 
 impl From<NoMemory> for TableErr {

@@ -1,6 +1,12 @@
 // The tables as they stand, before any number in them is looked up. A number that isn't below 2^31 is a negative one.
 use addr_base::Items;
 
+/// Stands for -1, where a field names nothing.
+pub const NOTHING: u32 = u32::MAX;
+
+/// The first number that is read as negative.
+pub const FIRST_NEGATIVE: u32 = 1 << 31;
+
 /// The offset of a bucket's key, and the numbers of its entries.
 #[derive(Drop)]
 pub struct Bucket {

@@ -1,11 +1,10 @@
 // The tables as numbers: a table's bytes become its numbers first, so that rows are cut from numbers and not from bytes.
 // No room is taken on the word of a count: a list grows row by row, and a bucket's numbers are cut from those that are there.
-ghost use Rattle.std.specs.Prelude.{◌≡◌, ℕ, ◌*◌, ◌^◌, ◌∷◌, [], ◌<◌, length, take, vec_len, IfOk, OnOk, IfSome, MatchOption};
-ghost use Rattle.addr_tables.specs.Rows.{HoldsBytes, AreTexts};
+ghost use Rattle.std.specs.Prelude.{◌≡◌, ℕ, ◌*◌, ◌^◌, ◌∷◌, [], ◌<◌, length, take, vec_len, IfOk, IfSome, MatchOption};
 ghost use Rattle.addr_tables.specs.Faults.{Gives, text_bytes, numbers_of, count_first, bucket_first, buckets_first, buckets_of, fields_of, entries_of, key_count, parts_of};
 
 use crate::error::TableErr;
-use crate::parts::{Bucket, Fields, Parts};
+use crate::parts::{Bucket, FIRST_NEGATIVE, Fields, Parts};
 use crate::rows::Tables;
 use addr_base::{Items, NoMemory, Text};
 use base64::DecodeAllocError;
@@ -14,8 +13,7 @@ use std::alloc::Global;
 
 #[tactic(auto, unfolding(crate::specs::Faults::text_bytes))]
 fn text_bytes(alloc: Global, which: u8, text: &Text) -> Result<Vec<u8>, TableErr>
-    ensures exact { Gives (λ v. v.items) result (text_bytes which text.now) }
-    ensures range { OnOk result (HoldsBytes which text.now) }
+    ensures { Gives (λ v. v.items) result (text_bytes which text.now) }
 {
     match STANDARD.decode(alloc, text.as_bytes()) {
         Ok(bytes) => Ok(bytes),
@@ -42,7 +40,7 @@ fn count_of(which: u8, numbers: &[u32]) -> Result<(u32, &[u32]), TableErr>
     ensures { Gives (λ x. (x.0, x.1.now)) result (count_first which numbers.now) }
 {
     match numbers {
-        [count, rest @ ..] if *count <= i32::MAX as u32 => Ok((*count, rest)),
+        [count, rest @ ..] if *count < FIRST_NEGATIVE => Ok((*count, rest)),
         _ => Err(TableErr::Short { which }),
     }
 }
@@ -54,7 +52,7 @@ fn bucket_of(alloc: Global, numbers: &[u32]) -> Result<(Bucket, &[u32]), TableEr
     let [offset, count, rest @ ..] = numbers else {
         return Err(TableErr::Short { which: 1 });
     };
-    if *count > i32::MAX as u32 || *count as usize > rest.len() {
+    if *count >= FIRST_NEGATIVE || *count as usize > rest.len() {
         return Err(TableErr::Short { which: 1 });
     }
     let (numbers, rest) = rest.split_at(*count as usize);
@@ -170,7 +168,6 @@ fn key_count(alloc: Global, keys: &[u8]) -> Result<u32, TableErr>
 #[tactic(auto, unfolding(crate::specs::Faults::parts_of))]
 pub fn parts_of(alloc: Global, tables: &Tables) -> Result<Parts, TableErr>
     ensures exact { Gives (λ p. p) result (parts_of tables.now) }
-    ensures range { OnOk result (AreTexts tables.now) }
     ensures few { IfOk result (λ p. length p.entries < 2 ^ 32) }
     ensures fewer { IfOk result (λ p. length p.buckets < 2 ^ 32) }
 {

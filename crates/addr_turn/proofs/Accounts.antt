@@ -8,10 +8,10 @@ use lib.ListN.{get_elem?}
 use Rattle.atomic_table.specs.Table.{Final, Seen}
 use Rattle.addr_turn.specs.declared.board.View.{View}
 use Rattle.addr_turn.specs.Queue.{stage}
-use Rattle.addr_turn.specs.Numbers.{in_span, times, single}
+use Rattle.addr_turn.specs.Numbers.{number_bound, in_span, times, single}
 use Rattle.addr_turn.specs.OneHistory.{own, At, had, unused, IsKnown, HasAll, Accounted, Ruled, role_of, Stands}
 use Rattle.addr_turn.specs.Steps.{with_role}
-use Rattle.addr_turn.proofs.Beginnings.{at_below}
+use Rattle.addr_turn.proofs.Prefixes.{at_below}
 use Rattle.addr_turn.proofs.Claims.{times-append}
 use Rattle.addr_turn.proofs.Own.{own_has}
 use Rattle.addr_turn.proofs.Kept.{all_known, knows_at, value_or}
@@ -25,7 +25,7 @@ met_has {E} (o ∷ others) k h = dite (ℕ_discrete o.0 k) (λ hit. (0, o.1, ap 
 
 module _ {E F : Type 0} (number : E → Option ℕ) where
   -- where the domain is every number, each entry is accounted for
-  pub accounts : (log : List E) (part : F) (v : View E F) → IsKnown number log part v → v.number < 4294967296 → HasAll v → (p : ℕ) (e : E) → At log p e → Accounted number v p e
+  pub accounts : (log : List E) (part : F) (v : View E F) → IsKnown number log part v → v.number < number_bound → HasAll v → (p : ℕ) (e : E) → At log p e → Accounted number v p e
   accounts log part v k small all p e at = by_number (number e) refl
     where
       by_number : (n : Option ℕ) → number e ≡ n → MatchOption n ((i : ℕ) × At v.bare i p) (λ j. ((i : ℕ) × At v.mine i e) ⊎ ((i : ℕ) × (es : List E) × (m : ℕ) × At v.others i (j, es) × At es m e))

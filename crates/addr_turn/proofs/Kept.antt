@@ -15,8 +15,8 @@ use Rattle.addr_turn.specs.declared.board.View.{View}
 use Rattle.addr_turn.specs.Queue.{stage, ticket, Waits, AtHome, Away, Queue}
 use Rattle.addr_turn.specs.Numbers.{times}
 use Rattle.addr_turn.specs.OneHistory.{own, At, domain, role_of, first_view, Knows, IsKnown, Stands, Ruled}
-use Rattle.addr_turn.specs.Steps.{with_role, with_seen, with_share, drawn, looked, greeted, glanced, took, put, served, planned, compared}
-use Rattle.addr_turn.proofs.Beginnings.{begins_itself}
+use Rattle.addr_turn.specs.Steps.{with_role, with_seen, with_share, drawn, looked, glanced_in_turn, glanced, took, put, served, planned, compared}
+use Rattle.addr_turn.proofs.Prefixes.{prefix_of_itself}
 use Rattle.addr_turn.proofs.Claims.{claims_set, claims_one, spares_set}
 use Rattle.addr_turn.proofs.Tickets as tickets
 
@@ -39,7 +39,7 @@ knows_at number log part who v r share whole k = record {
 -- what a pass knows that has seen the whole history
 pub knows_all : {E F : Type 0} (number : E → Option ℕ) (log : List E) (part : F) (who : ℕ → ℕ) (v : View E F) (r : Role) → Knows number log part who v → Knows number log part who (with_seen v r log)
 knows_all number log part who v r k = record {
-  prefix = begins_itself log;
+  prefix = prefix_of_itself log;
   shorter = k.shorter;
   mine = k.mine;
   mine_seen = k.mine;
@@ -165,8 +165,8 @@ module _ (S E F : Type 0) (entries : S → List E) (fixed : S → F) (number : E
         ((λ hit. absurd (miss hit)), λ _. refl),
       ))
 
-  pub greets : (slots id : ℕ) (me : M) → stage me.0.role ≡ 2 → Allows Rule slots id me 2 (λ x. x) (greeted entries fixed number (step slots 2 0 0 none) me)
-  greets slots id me st s r _ at fits = let q = r.queue in let t : ℕ = ticket me.0.role in let k = r.knows id me.0 at in let w : V = with_seen me.0 (Glanced t) r.log in (
+  pub glances_in_turn : (slots id : ℕ) (me : M) → stage me.0.role ≡ 2 → Allows Rule slots id me 2 (λ x. x) (glanced_in_turn entries fixed number (step slots 2 0 0 none) me)
+  glances_in_turn slots id me st s r _ at fits = let q = r.queue in let t : ℕ = ticket me.0.role in let k = r.knows id me.0 at in let w : V = with_seen me.0 (Glanced t) r.log in (
     w,
     keeps,
     tt,

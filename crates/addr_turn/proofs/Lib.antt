@@ -1,9 +1,9 @@
 pub mod Accounts
-pub mod Beginnings
 pub mod Claims
 pub mod Kept
 pub mod Meeting
 pub mod Own
+pub mod Prefixes
 pub mod Recording
 pub mod Splitting
 pub mod Tickets

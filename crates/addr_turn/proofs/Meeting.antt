@@ -9,10 +9,10 @@ use Rattle.atomic_table.specs.Table.{Joins}
 use Rattle.atomic_table.proofs.Lists.{set_else}
 use Rattle.addr_turn.specs.declared.board.View.{View}
 use Rattle.addr_turn.specs.Queue.{stage}
-use Rattle.addr_turn.specs.Numbers.{times, single}
-use Rattle.addr_turn.specs.OneHistory.{own, Begins, At, unused, domain, role_of, spent_view, Knows, Signed, Ruled}
+use Rattle.addr_turn.specs.Numbers.{number_bound, times, single}
+use Rattle.addr_turn.specs.OneHistory.{own, IsPrefix, At, unused, domain, role_of, spent_view, Knows, Signed, Ruled}
 use Rattle.addr_turn.specs.Steps.{longer, shorter_of, met_view}
-use Rattle.addr_turn.proofs.Beginnings.{begins_itself, begins_shorter, at_append, at_left, at_right}
+use Rattle.addr_turn.proofs.Prefixes.{prefix_of_itself, prefix_of_longer, at_append, at_left, at_right}
 use Rattle.addr_turn.proofs.Claims.{times-append, claims_set, spares_set, domain_parts}
 use Rattle.addr_turn.proofs.Own.{own_between}
 use Rattle.addr_turn.proofs.Kept.{Good}
@@ -43,15 +43,15 @@ module _ {E : Type 0} where
   shorter_length xs ys = longer_by (λ (zs : List E). length (shorter_of xs ys) ≤ length zs) xs ys
       (λ l. shorter_by (λ (zs : List E). length zs ≤ length xs) xs ys (omega arith) l) (λ l. shorter_by (λ (zs : List E). length zs ≤ length ys) xs ys l (omega arith))
 
-  -- of two lists, of which the shorter begins the longer, both begin the longer
-  pub both_begin : (xs ys : List E) → (length (shorter_of xs ys) ≤ length (longer xs ys) → Begins (shorter_of xs ys) (longer xs ys)) → Begins xs (longer xs ys) × Begins ys (longer xs ys)
+  -- of two lists, of which the shorter is a prefix of the longer, both are prefixes of the longer
+  pub both_prefixes : (xs ys : List E) → (length (shorter_of xs ys) ≤ length (longer xs ys) → IsPrefix (shorter_of xs ys) (longer xs ys)) → IsPrefix xs (longer xs ys) × IsPrefix ys (longer xs ys)
   unfolding longer shorter_of
-  both_begin xs ys begins = by_test (nat_le (length ys) (length xs)) (begins (shorter_length xs ys))
+  both_prefixes xs ys is_prefix = by_test (nat_le (length ys) (length xs)) (is_prefix (shorter_length xs ys))
     where
-      by_test : (b : Bool) → Begins (Rattle.std.specs.Prelude.if◌then◌else◌ b ys xs) (Rattle.std.specs.Prelude.if◌then◌else◌ b xs ys)
-          → Begins xs (Rattle.std.specs.Prelude.if◌then◌else◌ b xs ys) × Begins ys (Rattle.std.specs.Prelude.if◌then◌else◌ b xs ys)
-      by_test true h = (begins_itself xs, h)
-      by_test false h = (h, begins_itself ys)
+      by_test : (b : Bool) → IsPrefix (Rattle.std.specs.Prelude.if◌then◌else◌ b ys xs) (Rattle.std.specs.Prelude.if◌then◌else◌ b xs ys)
+          → IsPrefix xs (Rattle.std.specs.Prelude.if◌then◌else◌ b xs ys) × IsPrefix ys (Rattle.std.specs.Prelude.if◌then◌else◌ b xs ys)
+      by_test true h = (prefix_of_itself xs, h)
+      by_test false h = (h, prefix_of_itself ys)
 
 none_is : {F : Type 0} (f g : F) → None ≡ Some f → f ≡ g
 none_is {F} f g bad = let t : 0 ≡ 1 = ap size bad in absurd (omega (arith, t))
@@ -88,11 +88,11 @@ module _ {E F : Type 0} where
 
     pub knows_met : (v w : View E F) → Knows number log part who v → Knows number log part who w → stage v.role ≡ 0 → Knows number log part who (met_view v w)
     knows_met v w a b rests = record {
-      prefix = longer_by (λ (xs : List E). Begins xs log) v.seen w.seen (λ _. a.prefix) (λ _. b.prefix);
-      shorter = shorter_by (λ (xs : List E). Begins xs log) v.seen w.seen a.prefix b.prefix;
+      prefix = longer_by (λ (xs : List E). IsPrefix xs log) v.seen w.seen (λ _. a.prefix) (λ _. b.prefix);
+      shorter = shorter_by (λ (xs : List E). IsPrefix xs log) v.seen w.seen a.prefix b.prefix;
       mine = a.mine;
       mine_seen = λ low. longer_by (λ (xs : List E). own number v.number xs ≡ v.mine) v.seen w.seen (λ _. a.mine_seen low)
-          (λ l. own_between number v.number v.seen w.seen log v.mine (begins_shorter v.seen w.seen log a.prefix b.prefix l) b.prefix (a.mine_seen low) (a.mine low));
+          (λ l. own_between number v.number v.seen w.seen log v.mine (prefix_of_longer v.seen w.seen log a.prefix b.prefix l) b.prefix (a.mine_seen low) (a.mine low));
       others = λ i k es at low. ⊎_elim (λ (old : At v.others i (k, es)). a.others i k es old low) (λ (new : (j : ℕ) × At ((w.number, w.mine) ∷ w.others) j (k, es)). of_second k es low new.0 new.1) (at_append v.others ((w.number, w.mine) ∷ w.others) i (k, es) at);
       whole = λ z. absurd (omega (arith, rests, z));
       same_part = a.same_part;
@@ -105,7 +105,7 @@ module _ {E F : Type 0} where
           (λ here. let h = a.bare_all p e at is (omega (arith, here)) in (h.0, at_left v.bare w.bare h.0 p h.1));
     }
       where
-        of_second : (k : ℕ) (es : List E) → k < 4294967296 → (j : ℕ) → At ((w.number, w.mine) ∷ w.others) j (k, es) → own number k log ≡ es
+        of_second : (k : ℕ) (es : List E) → k < number_bound → (j : ℕ) → At ((w.number, w.mine) ∷ w.others) j (k, es) → own number k log ≡ es
         of_second k es low zero at = let met : ℕ × List E = (w.number, w.mine) in let asked : ℕ × List E = (k, es) in let same : met ≡ asked = some-injective met asked at in let named : w.number ≡ k = ap (λ (z : ℕ × List E). z.0) same in
             ap (λ (z : ℕ). own number z log) (sym named) ∙ (b.mine (omega (arith, named, low)) ∙ ap (λ (z : ℕ × List E). z.1) same)
         of_second k es low (suc j) at = b.others j k es at low

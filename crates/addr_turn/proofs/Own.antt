@@ -3,7 +3,7 @@ use Rattle.std.proofs.Common.{◌≡◌, ◌≢◌, ℕ, zero, suc, Bool, true, 
 use Rattle.std.proofs.lemmas.List.{append-nil}
 use Rattle.std.proofs.lemmas.List.Elements.{filter-append}
 use mathlib.Core.Option.{some, some-injective, some-ne-none}
-use Rattle.addr_turn.specs.OneHistory.{is_number, own, Begins, At}
+use Rattle.addr_turn.specs.OneHistory.{is_number, own, IsPrefix, At}
 
 pub is_number-same : (n : Option ℕ) (k : ℕ) → n ≡ Some k → is_number n k ≡ true
 is_number-same n k is = ap (λ (z : Option ℕ). is_number z k) is ∙ eq-eqb k k refl
@@ -58,7 +58,7 @@ module _ {E : Type 0} (number : E → Option ℕ) where
   own_nothing k (x ∷ log) never = own_first k x log false (is_number-other (number x) k (λ j is same. never 0 x refl (is ∙ ap (λ (z : ℕ). let m : Option ℕ = Some z in m) same))) ∙ own_nothing k log (λ p e at is. never (suc p) e at is)
 
   -- a history between two that have the same entries of a number has them too
-  pub own_between : (k : ℕ) (xs ys zs : List E) (mine : List E) → Begins xs ys → Begins ys zs → own number k xs ≡ mine → own number k zs ≡ mine → own number k ys ≡ mine
+  pub own_between : (k : ℕ) (xs ys zs : List E) (mine : List E) → IsPrefix xs ys → IsPrefix ys zs → own number k xs ≡ mine → own number k zs ≡ mine → own number k ys ≡ mine
   own_between k xs ys zs mine a b first last = let more : own number k ys ≡ mine ++ own number k a.0 = ap (own number k) (sym a.1) ∙ (own_append k xs a.0 ∙ ap (λ (l : List E). l ++ own number k a.0) first) in
       let all : mine ≡ (mine ++ own number k a.0) ++ own number k b.0 = sym last ∙ (ap (own number k) (sym b.1) ∙ (own_append k ys b.0 ∙ ap (λ (l : List E). l ++ own number k b.0) more)) in
       let size : length mine ≡ length ((mine ++ own number k a.0) ++ own number k b.0) = ap length all in let l = length-append (mine ++ own number k a.0) (own number k b.0) in let m = length-append mine (own number k a.0) in

@@ -9,10 +9,10 @@ use Rattle.atomic_table.specs.Table.{step, keeps, Allows}
 use Rattle.atomic_table.proofs.Lists.{at_last}
 use Rattle.addr_turn.specs.declared.board.View.{View}
 use Rattle.addr_turn.specs.Queue.{stage}
-use Rattle.addr_turn.specs.Numbers.{in_span, times, single}
+use Rattle.addr_turn.specs.Numbers.{number_bound, in_span, times, single}
 use Rattle.addr_turn.specs.OneHistory.{own, At, unused, domain, InDomain, role_of, Knows, Signed, Ruled}
 use Rattle.addr_turn.specs.Steps.{numbered, bare_at, recorded_as, recorded}
-use Rattle.addr_turn.proofs.Beginnings.{begins_more, at_below, at_snoc_place, at_append, at_left, at_right}
+use Rattle.addr_turn.proofs.Prefixes.{prefix_of_more, at_below, at_snoc_place, at_append, at_left, at_right}
 use Rattle.addr_turn.proofs.Claims.{in_own_span, claims_one, claims_two, claims_set, spares_set, met_claims, domain_parts}
 use Rattle.addr_turn.proofs.Own.{own_more, own_same}
 use Rattle.addr_turn.proofs.Kept.{Good, M}
@@ -67,8 +67,8 @@ module _ {E F : Type 0} (number : E → Option ℕ) (log : List E) (part : F) (w
   pub knows_behind : (d : View E F) → Knows number log part who d → times n (domain d) ≡ 0 → (2 < stage d.role → ⊥) → Knows number (log ++ e ∷ []) part after d
   knows_behind d k free rests = let parts = domain_parts n d in let own_span = in_own_span n in
       let not_mine : d.number ≢ n = λ same. let one : in_span n d.number 1 ≡ 1 = ap (λ (z : ℕ). in_span n z 1) same ∙ own_span in omega (arith, parts, free, one) in record {
-        prefix = begins_more d.seen log (e ∷ []) k.prefix;
-        shorter = begins_more d.shorter log (e ∷ []) k.shorter;
+        prefix = prefix_of_more d.seen log (e ∷ []) k.prefix;
+        shorter = prefix_of_more d.shorter log (e ∷ []) k.shorter;
         mine = λ low. others_stay d.number log not_mine ∙ k.mine low;
         mine_seen = k.mine_seen;
         others = λ i j es at low. others_stay j log (λ same. let met = met_claims d.others i j es at in let met' : 1 ≤ times n (map single d.others) = subst (λ (z : ℕ). 1 ≤ times z (map single d.others)) same met in omega (arith, parts, free, met'))
@@ -97,12 +97,12 @@ module _ {E F : Type 0} (number : E → Option ℕ) (log : List E) (part : F) (w
   grown (Some j) is xs = own_more number n xs e (is ∙ ap (λ (z : ℕ). let m : Option ℕ = Some z in m) (sign j is))
 
   -- what the pass knows that recorded the entry
-  pub knows_recorded : (v : View E F) → Knows number log part who v → v.number ≡ n → n < 4294967296 → times n (domain v) ≤ 1 → v.seen ≡ log → Knows number (log ++ e ∷ []) part after (recorded_as number v e)
+  pub knows_recorded : (v : View E F) → Knows number log part who v → v.number ≡ n → n < number_bound → times n (domain v) ≤ 1 → v.seen ≡ log → Knows number (log ++ e ∷ []) part after (recorded_as number v e)
   knows_recorded v k named small once all = let parts = domain_parts n v in let own_span = in_own_span n in let one : in_span n v.number 1 ≡ 1 = ap (λ (z : ℕ). in_span n z 1) named ∙ own_span in
       let mine : (xs : List E) → own number n xs ≡ v.mine → own number v.number (xs ++ e ∷ []) ≡ v.mine ++ numbered (number e) e =
       λ xs was. ap (λ (z : ℕ). own number z (xs ++ e ∷ [])) named ∙ (grown (number e) refl xs ∙ ap (λ (z : List E). z ++ numbered (number e) e) was) in record {
         prefix = ([], append-nil (v.seen ++ e ∷ []) ∙ ap (λ (z : List E). z ++ e ∷ []) all);
-        shorter = begins_more v.shorter log (e ∷ []) k.shorter;
+        shorter = prefix_of_more v.shorter log (e ∷ []) k.shorter;
         mine = λ low. mine log (ap (λ (z : ℕ). own number z log) (sym named) ∙ k.mine low);
         mine_seen = λ low. mine v.seen (ap (λ (z : ℕ). own number z v.seen) (sym named) ∙ k.mine_seen low);
         others = λ i j es at low. others_stay j log (λ same. let met = met_claims v.others i j es at in let met' : 1 ≤ times n (map single v.others) = subst (λ (z : ℕ). 1 ≤ times z (map single v.others)) same met in omega (arith, parts, once, one, met'))
@@ -136,7 +136,7 @@ module _ (S E F : Type 0) (entries : S → List E) (fixed : S → F) (number : E
   carried_or d _ = d
 
   pub records : (slots id : ℕ) (me : M S E F entries fixed number) (x : S) (e : E) → stage me.0.role ≡ 4 → me.1 ≡ (0, Some x) ∷ [] → entries x ≡ me.0.seen ++ e ∷ []
-      → ((j : ℕ) → number e ≡ Some j → j ≡ me.0.number) → me.0.number < 4294967296 → length (entries x) < 18446744073709551616
+      → ((j : ℕ) → number e ≡ Some j → j ≡ me.0.number) → me.0.number < number_bound → length (entries x) < 18446744073709551616
       → Allows (Ruled entries fixed number) slots id me 2 (λ z. (z + 1) % 2 ^ 64) (recorded entries fixed number (step slots 2 1 0 none) me)
   records slots id me x e st carried told sign small short s r _ at fits = let q = r.queue in let v : View E F = me.0 in let n : ℕ = v.number in let log : List E = r.log in let k = r.knows id v at in
       let all : v.seen ≡ log = k.whole (omega (arith, st)) in let w : View E F = recorded_as number v e in let y : ℕ = (get_or s.words 2 0 + 1) % 18446744073709551616 in let wide = q.wide in

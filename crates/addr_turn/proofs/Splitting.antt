@@ -8,7 +8,7 @@ use Rattle.addr_turn.specs.Queue.{stage}
 use Rattle.addr_turn.specs.Numbers.{times}
 use Rattle.addr_turn.specs.OneHistory.{At, domain, role_of, Knows, Signed, Ruled}
 use Rattle.addr_turn.specs.Steps.{kept_view, given_view}
-use Rattle.addr_turn.proofs.Beginnings.{at_below, at_left}
+use Rattle.addr_turn.proofs.Prefixes.{at_below, at_left}
 use Rattle.addr_turn.proofs.Claims.{span_cut, claims_set, claims_append, spares_set, spares_append, domain_parts}
 use Rattle.addr_turn.proofs.Own.{own_nothing}
 use Rattle.addr_turn.proofs.Kept.{Good}

@@ -9,6 +9,7 @@ use Rattle.atomic_table.specs.Table.{State}
 use Rattle.atomic_table.proofs.Lists.{at_longer, at_set, at_snoc, set_here, set_else, one_turn}
 use Rattle.addr_turn.specs.declared.board.Role.{Role}
 use Rattle.addr_turn.specs.declared.board.Role.TheVariants.{Idle, Drawn, Turn, Glanced, Out}
+use Rattle.addr_turn.specs.Numbers.{number_bound}
 use Rattle.addr_turn.specs.Queue.{stage, ticket, held, tickets_of, Waits, AtHome, Away, Queue}
 
 -- a seat at least at its turn, or with a ticket, holds one ticket
@@ -185,7 +186,7 @@ module _ (S V : Type 0) (role : V → Role) where
       (place_stays Good s.homes s.views q.place me v at w (omega (arith, was)) (omega (arith, is)))
 
   -- a new seat with no ticket
-  pub grows : (Good : S → Type 0) (s : St) (q : Queue role Good s) (w : V) → stage (role w) ≡ 0 → length s.views + 1 ≤ 4294967296
+  pub grows : (Good : S → Type 0) (s : St) (q : Queue role Good s) (w : V) → stage (role w) ≡ 0 → length s.views + 1 ≤ number_bound
       → Queue role Good record { words = s.words; homes = s.homes; views = s.views ++ w ∷ [] }
   grows Good s q w is few = let vacant = holds_none (role w) is in record {
     n = q.n;

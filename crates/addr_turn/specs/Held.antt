@@ -6,17 +6,19 @@ use Rattle.addr_base.specs.declared.told.Told.{Ghosts}
 use Rattle.addr_turn.specs.declared.board.View.{View}
 use Rattle.addr_turn.specs.declared.lock.Pass.{Pass}
 use Rattle.addr_turn.specs.declared.lock.Turns.{Turns}
+use Rattle.addr_turn.specs.Numbers.{number_bound}
 use Rattle.addr_turn.specs.Queue.{stage}
 
 module _ {S E F : Type 0} where
   -- the seat is at the table, with no ticket and no slot
   abbrev pub IsAtRest : TableId → Seat (Option S) (View E F) → Type 0
-  IsAtRest table seat = (seat.table_id ≡ table) × (stage seat.me.0.role ≡ 0) × (seat.me.1 ≡ []) × IsSome seat.me.0.fixed × (seat.me.0.number < 4294967296)
+  IsAtRest table seat = (seat.table_id ≡ table) × (stage seat.me.0.role ≡ 0) × (seat.me.1 ≡ []) × IsSome seat.me.0.fixed × (seat.me.0.number < number_bound)
 
   -- the seat is at the table, at its turn, and has the state out
   abbrev pub IsOut : TableId → Seat (Option S) (View E F) → Type 0
-  IsOut table seat = (seat.table_id ≡ table) × (stage seat.me.0.role ≡ 4) × (seat.me.1 ≡ (0, None) ∷ []) × (seat.me.0.number < 4294967296)
+  IsOut table seat = (seat.table_id ≡ table) × (stage seat.me.0.role ≡ 4) × (seat.me.1 ≡ (0, None) ∷ []) × (seat.me.0.number < number_bound)
 
+  -- both are the one lock
   abbrev pub IsSameLock : Turns S E F → Turns S E F → Type 0
   IsSameLock one other = one.board.shared.table_id ≡ other.board.shared.table_id
 

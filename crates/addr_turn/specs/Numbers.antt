@@ -1,6 +1,10 @@
 -- Spans of numbers, each by its first number and its length, and how often a number stands in some of them.
 use Rattle.std.specs.Prelude.{ℕ, ◌+◌, ◌-◌, List, [], ◌∷◌, min}
 
+-- every number of a pass is below it
+abbrev pub number_bound : ℕ
+number_bound = 4294967296
+
 -- 1 where k is below m, else 0
 abbrev pub below : ℕ → ℕ → ℕ
 below k m = min 1 (m - k)

@@ -7,7 +7,9 @@ use lib.ListN.{get_elem?}
 use Rattle.atomic_table.specs.Table.{State}
 use Rattle.addr_turn.specs.declared.board.Role.{Role}
 use Rattle.addr_turn.specs.declared.board.Role.TheVariants.{Idle, Drawn, Turn, Glanced, Out}
+use Rattle.addr_turn.specs.Numbers.{number_bound}
 
+-- how far a seat is with its turn, by the stages above
 abbrev pub stage : Role → ℕ
 stage Idle = 0
 stage (Drawn t) = 1
@@ -15,6 +17,7 @@ stage (Turn t) = 2
 stage (Glanced t) = 3
 stage (Out t) = 4
 
+-- the ticket of a role that has one
 abbrev pub ticket : Role → ℕ
 ticket Idle = 0
 ticket (Drawn t) = t
@@ -30,6 +33,7 @@ held (Turn t) = 1
 held (Glanced t) = 1
 held (Out t) = 1
 
+-- how many tickets all seats hold
 abbrev pub tickets_of : {V : Type 0} → (V → Role) → List V → ℕ
 tickets_of role [] = 0
 tickets_of role (v ∷ vs) = held (role v) + tickets_of role vs
@@ -64,7 +68,7 @@ pub record Queue {S V : Type 0} (role : V → Role) (Good : S → Type 0) (s : S
   pub tickets : slice_index s.words 0 ≡ n % 18446744073709551616
   pub turns : slice_index s.words 1 ≡ m % 18446744073709551616
   pub all_held : m + tickets_of role s.views ≡ n
-  pub few : length s.views ≤ 4294967296
+  pub few : length s.views ≤ number_bound
   pub each_seat : (j : ℕ) (d : V) → get_elem? s.views j ≡ some d → Waits m n (role d)
   pub own : (i j : ℕ) (c d : V) → get_elem? s.views i ≡ some c → get_elem? s.views j ≡ some d → 0 < stage (role c) → 0 < stage (role d) → ticket (role c) ≡ ticket (role d) → i ≡ j
   pub place : AtHome role Good s.homes s.views ⊎ Away role s.views

@@ -2,7 +2,7 @@
 //! The glance comes right after the look that gave the turn, so that the state which is taken out stands for what was seen.
 ghost use Rattle.std.specs.Prelude.{◌≡◌, [], Some, None, true, false};
 ghost use Rattle.addr_turn.specs.Held.{view, IsAtRest, IsPassOf, IsInside, IsSameLock};
-ghost use Rattle.addr_turn.specs.OneHistory.{Begins, IsKnown, AllAccounted};
+ghost use Rattle.addr_turn.specs.OneHistory.{IsPrefix, IsKnown, AllAccounted};
 ghost use Rattle.addr_turn.specs.Queue.{stage};
 ghost use Rattle.addr_turn.specs.Steps.{with_role, Begun, MayRecord, HasRecorded, IsAsSeen};
 ghost use Rattle.addr_turn.specs.declared.board.Role.TheVariants.{Idle};
@@ -11,7 +11,7 @@ ghost use Rattle.std.specs.Borrow.{sem};
 
 use crate::board::{Board, Place};
 use crate::lock::{Inside, Pass, Recorded, Turns};
-use crate::plays::{Draw, Greet, Look, PutHome, Record, Serve, TakeOut};
+use crate::plays::{Draw, GlanceInTurn, Look, PutHome, Record, Serve, TakeOut};
 use addr_base::Told;
 use std::sync::Wait;
 use std::thread;
@@ -45,7 +45,7 @@ impl<S: Told> Turns<S> {
     {
         await_turn(rt, self, &mut pass.place);
         let shared = &self.board.shared;
-        pass.count = shared.load::<Greet>(&mut pass.place, 2);
+        pass.count = shared.load::<GlanceInTurn>(&mut pass.place, 2);
         shared.load::<TakeOut>(&mut pass.place, 1);
         let state = shared.exchange(&mut pass.place, 0, None).unwrap();
         Inside {
@@ -59,7 +59,7 @@ impl<S: Told> Turns<S> {
     /// Waits for a last turn, and gives the state.
     pub fn close<R: Wait>(self, rt: &R, pass: Pass<S>) -> S
         requires { IsPassOf self pass }
-        ensures seen { Begins (view pass).seen (S.entries result) × ((view pass).fixed ≡ Some (S.fixed result)) }
+        ensures seen { IsPrefix (view pass).seen (S.entries result) × ((view pass).fixed ≡ Some (S.fixed result)) }
         ensures knows { IsKnown S.number (S.entries result) (S.fixed result) (view pass) }
         ensures accounted { AllAccounted S.number (view pass) (S.entries result) }
     {

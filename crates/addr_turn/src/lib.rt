@@ -1,4 +1,4 @@
-//! A turn lock: one state for all threads, with one history that each of them knows a beginning of (docs/turn-lock.md).
+//! A turn lock: one state for all threads, with one history that each of them knows a prefix of (docs/turn-lock.md).
 //!
 //! Promise: what a pass knows of the history is true of it (`specs/OneHistory.antt`), whatever other threads do; each call
 //! says what the pass knows after it (`specs/Steps.antt`). Nothing is promised of progress, fairness or time.

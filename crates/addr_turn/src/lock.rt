@@ -1,6 +1,7 @@
 //! The three types of a turn lock: the lock, a pass, and a turn that a pass is inside of.
 //! The numbers of a pass stand in its view, for the proof, and beside it, for the code: a seat has no bytes.
 ghost use Rattle.std.specs.Prelude.{◌≡◌, ◌+◌, ◌≤◌, length};
+ghost use Rattle.addr_turn.specs.Numbers.{number_bound};
 
 use crate::board::{Board, Place};
 use addr_base::Told;
@@ -23,7 +24,7 @@ pub struct Pass<S: Told> {
     ghost lowest: { place.me.0.low ≡ low },
     ghost spared: { place.me.0.spare ≡ spare },
     ghost counted: { length place.me.0.seen ≡ count },
-    ghost bounded: { low + spare ≤ 4294967296 },
+    ghost bounded: { low + spare ≤ number_bound },
 }
 
 /// A turn, with the state out of the lock. It is not `Drop`: end it by `leave`.

@@ -1,5 +1,5 @@
-//! What each step on the table tells the pass that makes it, and how views are cut in two and met.
-ghost use Rattle.addr_turn.specs.Steps.{drawn, looked, greeted, took, recorded, put, served, glanced, planned, compared, kept_view, given_view, met_view};
+//! What each step on the table tells the pass that makes it, and how a view is split in two and two are met.
+ghost use Rattle.addr_turn.specs.Steps.{drawn, looked, glanced_in_turn, took, recorded, put, served, glanced, planned, compared, kept_view, given_view, met_view};
 ghost use Rattle.addr_turn.specs.OneHistory.{spent_view};
 
 use crate::board::View;
@@ -22,10 +22,10 @@ impl<S: Told> Play<Option<S>, View<S::Entry, S::Fixed>> for Look {
 }
 
 /// The glance at the length of the history that begins a turn.
-pub(crate) struct Greet;
+pub(crate) struct GlanceInTurn;
 
-impl<S: Told> Play<Option<S>, View<S::Entry, S::Fixed>> for Greet {
-    ghost then = { greeted S.entries S.fixed S.number };
+impl<S: Told> Play<Option<S>, View<S::Entry, S::Fixed>> for GlanceInTurn {
+    ghost then = { glanced_in_turn S.entries S.fixed S.number };
 }
 
 /// The state comes out of the slot's home, with the seat that has the turn.
@@ -78,18 +78,18 @@ impl<S: Told> Play<Option<S>, View<S::Entry, S::Fixed>> for Compare {
 }
 
 /// Spare numbers go to another pass.
-pub(crate) struct Cut;
+pub(crate) struct SplitPass;
 
-impl<E, F> Split<View<E, F>> for Cut {
+impl<E, F> Split<View<E, F>> for SplitPass {
     ghost left = { kept_view };
 
     ghost right = { given_view };
 }
 
 /// One pass is met into another.
-pub(crate) struct Glue;
+pub(crate) struct MeetPasses;
 
-impl<E, F> Join<View<E, F>> for Glue {
+impl<E, F> Join<View<E, F>> for MeetPasses {
     ghost both = { met_view };
 
     ghost spent = { spent_view };

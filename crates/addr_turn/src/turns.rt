@@ -2,11 +2,11 @@
 //! A step cannot be told a number but by its operands, so `split` first swaps the share for itself in a word: the word stays.
 ghost use Rattle.std.specs.Prelude.{◌≡◌, ◌<◌, ◌≤◌, [], IfOk, IfErr, IsOk};
 ghost use Rattle.addr_turn.specs.Held.{view, IsPassOf};
-ghost use Rattle.addr_turn.specs.OneHistory.{first_view, Begins, HasAll, AreApart, SharedOut};
+ghost use Rattle.addr_turn.specs.OneHistory.{first_view, IsPrefix, HasAll, AreApart, SharedOut};
 ghost use Rattle.addr_turn.specs.Steps.{Sees, KnowsSeen, KnowsSome, with_share, kept_view, given_view, met_view};
 
 use crate::lock::{Pass, Turns};
-use crate::plays::{Compare, Cut, Glance, Glue, Plan};
+use crate::plays::{Compare, Glance, MeetPasses, Plan, SplitPass};
 use addr_base::Told;
 use atomic_table::{Refused, Table};
 use std::alloc::Global;
@@ -71,7 +71,7 @@ impl<S: Told> Turns<S> {
         let shared = &self.board.shared;
         let taken = u64::from(share);
         shared.compare_exchange::<Plan>(&mut kept.place, 0, taken, taken);
-        let place = shared.split_seat::<Cut>(&mut kept.place);
+        let place = shared.split_seat::<SplitPass>(&mut kept.place);
         let given = Pass {
             place,
             number: kept.low as u32,
@@ -89,13 +89,13 @@ impl<S: Told> Turns<S> {
         requires { IsPassOf self.now first × IsPassOf self.now second }
         ensures pass { IsPassOf self.now result × (view result ≡ met_view (view first) (view second)) }
         ensures knows { KnowsSome S.number (view result) }
-        ensures one_history { Begins (view first).seen (view result).seen × Begins (view second).seen (view result).seen }
+        ensures one_history { IsPrefix (view first).seen (view result).seen × IsPrefix (view second).seen (view result).seen }
         ensures domains { SharedOut (view result) (view first) (view second) × AreApart (view first) (view second) }
     {
         let mut both = first;
         let count = second.count;
         let shared = &self.board.shared;
-        shared.join_seat::<Glue>(&mut both.place, second.place);
+        shared.join_seat::<MeetPasses>(&mut both.place, second.place);
         shared.load::<Compare>(&mut both.place, 0);
         both.count = both.count.max(count);
         both

@@ -17,12 +17,12 @@ abbrev pub ◌>>=◌ : {A B : Type 0} → Result A FsErr → (A → Result B FsE
 (Ok x) >>= f = f x
 (Err e) >>= f = Err e
 
--- what is still to be read, with the place in the file where it ends
+-- what is still to be read, with the place in the file or table where it ends
 pub record Tail : Type 0 where
   pub end : ℕ
   pub rest : List ℕ
 
--- the place in the file where what is still to be read begins
+-- the place in the file or table where what is still to be read begins
 abbrev pub place : Tail → ℕ
 place c = c.end - length c.rest
 

@@ -8,7 +8,7 @@ use Rattle.std.proofs.lemmas.Map.Keys.{IsDistinct-push}
 use Rattle.std.proofs.lemmas.Map.Steps.{length-le_from_distinct_below}
 use Rattle.std.proofs.lemmas.Option.{slice_get_read}
 use Rattle.std.specs.List.{Contains, IsDistinct, list_any, slice_get, All}
-use Rattle.addr_walks.specs.Marks.{Tracks, HasLeft, with_mark, Grows, Searches}
+use Rattle.addr_walks.specs.Marks.{Tracks, HasLeft, with_mark, Grows}
 use Rattle.addr_walks.specs.Rows.{Edge, LedTo, Holds}
 use Rattle.addr_walks.specs.Walks.Leads.{stays, goes}
 use Rattle.addr_walks.proofs.Lists.{Contains-here, Contains-later, Contains-none}
@@ -130,6 +130,12 @@ grows-more cs old now new marks i c within read tracks is grown = by_test (get_o
         only d (inr is') = subst (Contains (take (i + 1) cs)) is' latest
 
 -- ---- the search
+
+-- how far a search has come: all that was found is led to, and what the first ones lead to was found
+pub record Searches (rows : List (List ℕ)) (seeds queue : List ℕ) (done : ℕ) : Type 0 where
+  pub sound : (c : ℕ) → Contains queue c → LedTo rows seeds c
+  pub start : (s : ℕ) → Contains seeds s → Contains queue s
+  pub closed : (k c : ℕ) → k < done → Edge rows (get_or queue k 0) c → Contains queue c
 
 -- a row that was read at its place
 pub row_at : {X : Type 0} (rows : List X) (b : ℕ) (item row : X) → b < length rows → row ≡ item → item ≡ get_or rows b item → slice_get rows b ≡ Some row

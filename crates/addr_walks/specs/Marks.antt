@@ -1,7 +1,6 @@
 -- The state of a search: marks over all numbers, and the list of what is marked in the order in which it was found.
-use Rattle.std.specs.Prelude.{ℕ, ◌≡◌, ◌<◌, ◌↔◌, List, [], ◌∷◌, ◌++◌, Bool, true, false, if◌then◌else◌, nat_eq, slice_index_or}
+use Rattle.std.specs.Prelude.{ℕ, ◌≡◌, ◌↔◌, List, [], ◌∷◌, ◌++◌, Bool, true, false, if◌then◌else◌, nat_eq, slice_index_or}
 use Rattle.std.specs.List.{Contains, IsDistinct}
-use Rattle.addr_walks.specs.Rows.{Edge, LedTo}
 
 -- the list holds what is marked, each number once
 pub record Tracks (marks : List Bool) (queue : List ℕ) : Type 0 where
@@ -22,9 +21,3 @@ pub record Grows (cs old new : List ℕ) : Type 0 where
   pub is : new ≡ old ++ added
   pub only : (c : ℕ) → Contains added c → Contains cs c
   pub each : (c : ℕ) → Contains cs c → Contains new c
-
--- how far a search has come: all that was found is led to, and what the first ones lead to was found
-pub record Searches (rows : List (List ℕ)) (seeds queue : List ℕ) (done : ℕ) : Type 0 where
-  pub sound : (c : ℕ) → Contains queue c → LedTo rows seeds c
-  pub start : (s : ℕ) → Contains seeds s → Contains queue s
-  pub closed : (k c : ℕ) → k < done → Edge rows (slice_index_or queue k 0) c → Contains queue c

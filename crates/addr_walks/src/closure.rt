@@ -1,7 +1,7 @@
 // Dependency lists of rows of numbers: for each row one search from it.
-ghost use Rattle.std.specs.Prelude.{◌≡◌, ◌↔◌, ℕ, List, ◌∷◌, ◌<◌, ◌^◌, nat_lt, length, IfOk, IsTrue};
+ghost use Rattle.std.specs.Prelude.{◌≡◌, ◌↔◌, ◌∷◌, ◌<◌, ◌^◌, nat_lt, length, IfOk, IsTrue};
 ghost use Rattle.std.specs.List.{filter, list_all};
-ghost use Rattle.addr_walks.specs.Closure.{IsDeps, AreDeps, BeginsOnce, is_other};
+ghost use Rattle.addr_walks.specs.Closure.{IsDeps, AreDeps, is_other};
 ghost use Rattle.addr_walks.specs.Rows.{AreBelow, Edge};
 
 use crate::searching::Search;
@@ -77,8 +77,3 @@ fn is_other(first: u32, c: u32) -> bool
 {
     c != first
 }
-
-/// A dependency list begins with the row's own number and has no repeat. Nothing runs.
-pub fn deps_begin_once(direct: &[Items<u32>])
-    ensures { (b : ℕ) (deps : List ℕ) → IsDeps (Edge direct.now) b deps → BeginsOnce b deps }
-{}

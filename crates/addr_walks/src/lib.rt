@@ -12,5 +12,5 @@ mod searching;
 #[cfg(test)]
 mod tests;
 
-pub use closure::{are_below, closed, deps_begin_once};
+pub use closure::{are_below, closed};
 pub use searching::Search;

@@ -1,7 +1,6 @@
-use Rattle.std.proofs.Common.{◌≡◌, ◌<◌, ◌∙◌, sym, ap, length, map, arith, ℕ}
+use Rattle.std.proofs.Common.{◌<◌, ◌∙◌, sym, ap, length, map, arith, ℕ}
 use Rattle.std.specs.List.{range_with_len}
-use Rattle.std.proofs.lemmas.List.Elements.{All-from_recursion}
-use Rattle.addr_catalog.specs.Inverted.{AreNumbersBelow, first_with, with_list}
+use Rattle.addr_catalog.specs.Inverted.{first_with, with_list}
 use Rattle.addr_catalog.proofs.InvertedLemmas.{none_with, first_fit, all_added, list_added, long_as, list_is, list_within, below_same}
 use Rattle.addr_catalog.proofs.inverted.invert.Goals as goal
 

@@ -5,11 +5,11 @@ use Rattle.addr_catalog.proofs.written_rows.push_assets.Goals as goal
 
 pub overflow_cast-first : goal.overflow_cast-first
 overflow_cast-first c =
-    omega (arith, few_rows c.args.plan.now.locator.now c.requires, ap length c.bundles-first.ensures.rows, ap length c.assets-asset-items.ensures.rows, c.loop-i-test.true)
+    omega (arith, few_rows c.args.numbers.now.locator.now c.requires, ap length c.bundles-first.ensures.rows, ap length c.assets-asset-items.ensures.rows, c.loop-i-test.true)
 
 pub asset_entry-requires-clause-kind : goal.asset_entry-requires-clause-kind
 asset_entry-requires-clause-kind c =
-    let r = c.args.plan.now.locator.now in
+    let r = c.args.numbers.now.locator.now in
     let items = c.assets-asset-items.ensures.rows in
     let is = c.asset-item.is ∙ ap (λ assets. get_or assets c.loop-i.i c.asset-item.result) items in
     let within : c.loop-i.i < length r.assets = omega (arith, c.loop-i-test.true, ap length items) in
@@ -17,7 +17,7 @@ asset_entry-requires-clause-kind c =
 
 pub loop-i-preserved : goal.loop-i-preserved
 loop-i-preserved c =
-    let r = c.args.plan.now.locator.now in
+    let r = c.args.numbers.now.locator.now in
     let items = c.assets-asset-items.ensures.rows in
     let is = c.asset-item.is ∙ ap (λ assets. get_or assets c.loop-i.i c.asset-item.result) items in
     let within : c.loop-i.i < length r.assets = omega (arith, c.loop-i-test.true, ap length items) in

@@ -5,7 +5,7 @@ use Rattle.addr_catalog.proofs.written_rows.push_bundles.Goals as goal
 
 pub loop-i-preserved : goal.loop-i-preserved
 loop-i-preserved c =
-    let r = c.args.plan.now.locator.now in
+    let r = c.args.numbers.now.locator.now in
     let items = c.bundles-bundle-items.ensures.rows in
     let is = c.bundle-item.is ∙ ap (λ bs. get_or bs c.loop-i.i c.bundle-item.result) items in
     let within : c.loop-i.i < length r.bundles = omega (arith, c.loop-i-test.true, ap length items) in

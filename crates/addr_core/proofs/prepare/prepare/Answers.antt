@@ -1,20 +1,20 @@
 use Rattle.std.proofs.Common.{◌∙◌, ◌≡◌, ap, sym, List, Option, Err}
 use Rattle.addr_base.specs.declared.ids.KeyNo.{KeyNo}
 use Rattle.addr_locate.specs.Merge.{merged}
-use Rattle.addr_history.specs.Answers.{is_none}
+use Rattle.addr_history.specs.Answers.{has_no_row}
 use Rattle.addr_history.specs.declared.error.LoadErr.TheVariants.{NoLocation}
-use Rattle.addr_core.proofs.Preparing.{reply_closed, reply_none, reply_full, reply_ok, needed_is}
+use Rattle.addr_core.proofs.Preparing.{empty_has_no_row, reply_closed, reply_none, reply_full, reply_ok, needed_is}
 use Rattle.addr_core.proofs.prepare.prepare.Goals as goal
 
 pub returns-then-is_closed : goal.returns-then-is_closed
 returns-then-is_closed c = reply_closed c.args.past.now.locator.now c.args.past.now.limit c.args.past.now.events.now c.args.ask.now (sym c.is_closed.ensures ∙ c.if-is_closed.true)
 
-pub returns-then-is_none : goal.returns-then-is_none
-returns-then-is_none c =
+pub returns-then-is_empty : goal.returns-then-is_empty
+returns-then-is_empty c =
     let rows = c.args.past.now.locator.now in
     let ask = c.args.ask.now in
     let found : c.as_slice-2.result.now ≡ merged rows.assets ask.keys ask.mode ask.kind = c.as_slice-2.ensures ∙ c.in_ok-found.ensures.rows ∙ ap (λ (k : List (Option KeyNo)). merged rows.assets k ask.mode ask.kind) c.as_slice.ensures in
-    reply_none rows c.args.past.now.limit c.args.past.now.events.now ask (sym c.is_closed.ensures ∙ c.if-is_closed.false) (ap is_none (sym found) ∙ sym c.is_none.ensures ∙ c.if-is_none.true)
+    reply_none rows c.args.past.now.limit c.args.past.now.events.now ask (sym c.is_closed.ensures ∙ c.if-is_closed.false) (ap has_no_row (sym found) ∙ sym (empty_has_no_row c.as_slice-2.result.now) ∙ sym c.is_empty.ensures ∙ c.if-is_empty.true)
     ∙ ap (λ f. Err (NoLocation f)) (sym c.first_missing.ensures)
 
 pub returns-then-passes : goal.returns-then-passes
@@ -24,7 +24,7 @@ returns-then-passes c =
     let h = c.args.past.now.events.now in
     let found : c.as_slice-2.result.now ≡ merged rows.assets ask.keys ask.mode ask.kind = c.as_slice-2.ensures ∙ c.in_ok-found.ensures.rows ∙ ap (λ (k : List (Option KeyNo)). merged rows.assets k ask.mode ask.kind) c.as_slice.ensures in
     let needs : c.as_slice-4.result.now ≡ _ = c.as_slice-4.ensures ∙ c.in_ok-needs.ensures.needs in
-    reply_full rows c.args.past.now.limit h ask c.used-used.result c.reserved-reserved.result c.needed-needed.result (sym c.is_closed.ensures ∙ c.if-is_closed.false) (ap is_none (sym found) ∙ sym c.is_none.ensures ∙ c.if-is_none.false)
+    reply_full rows c.args.past.now.limit h ask c.used-used.result c.reserved-reserved.result c.needed-needed.result (sym c.is_closed.ensures ∙ c.if-is_closed.false) (ap has_no_row (sym found) ∙ sym (empty_has_no_row c.as_slice-2.result.now) ∙ sym c.is_empty.ensures ∙ c.if-is_empty.false)
     c.used-used.ensures c.reserved-reserved.ensures (needed_is rows c.args.past.now.limit h ask c.as_slice-4.result.now c.needed-needed.result c.needed-needed.ensures.exact needs) (sym c.passes.ensures ∙ c.if-passes.true)
 
 pub returns : goal.returns
@@ -35,6 +35,6 @@ returns c =
     let found : c.as_slice-2.result.now ≡ merged rows.assets ask.keys ask.mode ask.kind = c.as_slice-2.ensures ∙ c.in_ok-found.ensures.rows ∙ ap (λ (k : List (Option KeyNo)). merged rows.assets k ask.mode ask.kind) c.as_slice.ensures in
     let needs : c.as_slice-4.result.now ≡ _ = c.as_slice-4.ensures ∙ c.in_ok-needs.ensures.needs in (
       c.in_ok-needs.ensures.needs,
-      reply_ok rows c.args.past.now.limit h ask c.used-used.result c.reserved-reserved.result c.needed-needed.result (sym c.is_closed.ensures ∙ c.if-is_closed.false) (ap is_none (sym found) ∙ sym c.is_none.ensures ∙ c.if-is_none.false)
+      reply_ok rows c.args.past.now.limit h ask c.used-used.result c.reserved-reserved.result c.needed-needed.result (sym c.is_closed.ensures ∙ c.if-is_closed.false) (ap has_no_row (sym found) ∙ sym (empty_has_no_row c.as_slice-2.result.now) ∙ sym c.is_empty.ensures ∙ c.if-is_empty.false)
           c.used-used.ensures c.reserved-reserved.ensures (needed_is rows c.args.past.now.limit h ask c.as_slice-4.result.now c.needed-needed.result c.needed-needed.ensures.exact needs) (sym c.passes.ensures ∙ c.if-passes.false),
     )

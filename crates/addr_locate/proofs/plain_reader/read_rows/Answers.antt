@@ -1,7 +1,7 @@
 use Rattle.std.proofs.Common.{◌<◌, ℕ, List, sym, subst, arith, length, IsTrue, Err}
 use Rattle.std.specs.List.{AllByRecursion, list_all}
 use Rattle.addr_locate.specs.PlainParts.{ReadsAssets}
-use Rattle.addr_locate.specs.PlainRows.{IsAsset}
+use Rattle.addr_locate.specs.PlainRows.{IsAssetRow}
 use Rattle.addr_locate.specs.Rows.{has_sound_deps, no_text_twice, keys_of}
 use Rattle.addr_locate.specs.declared.rows.BundleRow.{BundleRow}
 use Rattle.addr_locate.specs.declared.rows.PlainAsset.{PlainAsset}
@@ -22,7 +22,7 @@ pub of_rows-requires-clause-deps : goal.of_rows-requires-clause-deps
 of_rows-requires-clause-deps c =
     let P : List PlainAsset → Type 0 = λ assets. IsTrue (list_all (λ (a : PlainAsset). has_sound_deps (length c.into_vec.result.items) a.deps) assets) in
     let Q : List BundleRow → Type 0 = λ bundles. IsTrue (list_all (λ (a : PlainAsset). has_sound_deps (length bundles) a.deps) c.in-Ok.assets) in
-    let R : ℕ → Type 0 = λ n. AllByRecursion (IsAsset n) c.in-Ok.assets in
+    let R : ℕ → Type 0 = λ n. AllByRecursion (IsAssetRow n) c.in-Ok.assets in
     subst P (sym c.into_vec-in-Ok.ensures) (subst Q (sym c.into_vec.ensures) (all_sound (length c.in_ok-bundles.bundles) c.in-Ok.assets (subst R c.len-count.ensures c.in-Ok.ensures.each)))
 
 pub of_rows-requires-clause-keys : goal.of_rows-requires-clause-keys

@@ -1,9 +1,12 @@
-use Rattle.std.proofs.Common.{◌≡◌, get_or, Some, None, inr, refl, sym, ap, ◌∙◌, arith}
-use Rattle.std.specs.Option.{option_map}
+use Rattle.std.proofs.Common.{◌≡◌, true, get_or, Some, None, inr, refl, sym, ap, subst, ◌∙◌, nat_cmp, arith}
+use Rattle.std.specs.BTreeSet.{contains_by}
+use Rattle.std.specs.Cmp.Lexicographic.{slice_cmp}
+use Rattle.std.specs.Option.{option_map, is_some}
 use Rattle.addr_base.specs.Files.{file_at}
 use Rattle.addr_project.specs.declared.error.ProjectErr.TheVariants.{MissingFile}
 use Rattle.addr_project.specs.Reading.{path, bytes_of}
 use Rattle.addr_project.proofs.LoadLemmas.{told-none, told-missing, told-more, told-all, told-assets, anyhow-none, anyhow-more, never-more, if-some, if-some-at}
+use Rattle.addr_project.proofs.SeenLemmas.{has_file, AreThere, there-more, there-seen, adds-none, both, there-is}
 use Rattle.addr_project.proofs.asset_files.read_assets.Goals as goal
 
 pub loop-i-init : goal.loop-i-init
@@ -13,6 +16,7 @@ loop-i-init g c = record {
   small = omega arith;
   never = λ same. cc;
   told = if-some (g.D.Depot.files c.args.depot.now) _ (λ files is. told-none files c.args.folder.now c.args.rows.now _ refl c.new.ensures refl);
+  seen = if-some (g.D.Depot.files c.args.depot.now) _ (λ files is. subst (AreThere files c.args.folder.now) (sym c.new-seen.ensures.empty) tt);
   any = λ none. anyhow-none c.args.rows.now _ c.new.ensures refl;
 }
 
@@ -22,7 +26,7 @@ loop-i-preserved g c =
     let rows = c.args.rows.now in
     let folder = c.args.folder.now in
     let at : get_or rows c.loop-i.i row ≡ row = sym c.index-rows-i.is in
-    let name_is : c.as_str-in-loop-i.result.now ≡ path folder row.file = c.as_str-in-loop-i.ensures.value ∙ c.in_ok-name.ensures ∙ ap (path folder) c.as_str.ensures in
+    let name_is : c.as_str.result.now ≡ path folder row.file = c.as_str.ensures.value ∙ c.in_ok-name.ensures ∙ ap (path folder) c.as_str-file.ensures in
     record {
       files = c.in_ok-bytes.ensures.same ∙ c.loop-i.invariant.files;
       later = omega (arith, c.loop-i.invariant.later, c.in_ok-bytes.ensures.cause);
@@ -33,7 +37,36 @@ loop-i-preserved g c =
           let content = if-some-at _ (g.D.Depot.files c.loop-i.depot) files (c.loop-i.invariant.files ∙ is) c.in_ok-bytes.ensures.content in
           let bytes_is : bytes_of files folder row ≡ Some c.in-Some.bytes.items = ap (λ n. file_at n files) (sym name_is) ∙ sym content ∙ ap (option_map (λ v. v.items)) c.in-Some.is in
           told-more files folder rows c.loop-i.i row c.loop-i-test.true at c.in-Some.bytes.items bytes_is c.loop-i.loaded c.in_ok-loaded-in-Some.loaded c.in_ok-loaded-in-Some.ensures.adds told));
+      seen = if-some (g.D.Depot.files c.args.depot.now) _ (λ files is. (
+          let there = if-some-at _ (g.D.Depot.files c.args.depot.now) files is c.loop-i.invariant.seen in
+          let content = if-some-at _ (g.D.Depot.files c.loop-i.depot) files (c.loop-i.invariant.files ∙ is) c.in_ok-bytes.ensures.content in
+          let bytes_is : bytes_of files folder row ≡ Some c.in-Some.bytes.items = ap (λ n. file_at n files) (sym name_is) ∙ sym content ∙ ap (option_map (λ v. v.items)) c.in-Some.is in
+          let here : has_file files folder c.as_str-file.result.now ≡ true = ap (has_file files folder) c.as_str-file.ensures ∙ ap is_some bytes_is in
+          subst (AreThere files folder) (sym c.in-Ok.ensures.keys) (there-more files folder c.loop-i.seen.keys c.as_str-file.result here there)));
       any = λ none. anyhow-more rows c.loop-i.i row c.loop-i-test.true at c.in-Some.bytes.items c.loop-i.loaded c.in_ok-loaded-in-Some.loaded c.in_ok-loaded-in-Some.ensures.adds c.loop-i.invariant.any none;
+    }
+
+pub loop-i-preserved-then-is_known : goal.loop-i-preserved-then-is_known
+loop-i-preserved-then-is_known g c =
+    let row = c.index-rows-i.result in
+    let rows = c.args.rows.now in
+    let folder = c.args.folder.now in
+    let at : get_or rows c.loop-i.i row ≡ row = sym c.index-rows-i.is in
+    let (over_is, known) = both (is_some c.loop-i.loaded.over) (contains_by (λ key. slice_cmp nat_cmp c.as_str-file.result.now key.now) c.loop-i.seen) (sym c.is_known.ensures ∙ c.if-is_known.true) in
+    let (fault, over) = there-is c.loop-i.loaded.over over_is in
+    record {
+      files = c.loop-i.invariant.files;
+      later = c.loop-i.invariant.later;
+      never = c.loop-i.invariant.never;
+      small = c.loop-i.invariant.small;
+      told = if-some (g.D.Depot.files c.args.depot.now) _ (λ files is. (
+          let told = if-some-at _ (g.D.Depot.files c.args.depot.now) files is c.loop-i.invariant.told in
+          let there = if-some-at _ (g.D.Depot.files c.args.depot.now) files is c.loop-i.invariant.seen in
+          let (bytes, found) = there-seen files folder c.loop-i.seen c.as_str-file.result.now there known in
+          let bytes_is : bytes_of files folder row ≡ Some bytes = ap (λ n. file_at (path folder n) files) (sym c.as_str-file.ensures) ∙ found in
+          told-more files folder rows c.loop-i.i row c.loop-i-test.true at bytes bytes_is c.loop-i.loaded c.loop-i.loaded (adds-none c.loop-i.loaded row bytes fault over) told));
+      seen = c.loop-i.invariant.seen;
+      any = λ none. absurd (cc (none, over));
     }
 
 pub returns-in-None-clause-told : goal.returns-in-None-clause-told
@@ -42,7 +75,7 @@ returns-in-None-clause-told g c =
     let rows = c.args.rows.now in
     let folder = c.args.folder.now in
     let at : get_or rows c.loop-i.i row ≡ row = sym c.index-rows-i.is in
-    let name_is : c.as_str-in-loop-i.result.now ≡ path folder row.file = c.as_str-in-loop-i.ensures.value ∙ c.in_ok-name.ensures ∙ ap (path folder) c.as_str.ensures in
+    let name_is : c.as_str.result.now ≡ path folder row.file = c.as_str.ensures.value ∙ c.in_ok-name.ensures ∙ ap (path folder) c.as_str-file.ensures in
     if-some (g.D.Depot.files c.args.depot.now) _ (λ files is. (
     let told = if-some-at _ (g.D.Depot.files c.args.depot.now) files is c.loop-i.invariant.told in
     let content = if-some-at _ (g.D.Depot.files c.loop-i.depot) files (c.loop-i.invariant.files ∙ is) c.in_ok-bytes.ensures.content in

@@ -2,6 +2,7 @@ use Rattle.std.proofs.Common.{◌≡◌, ◌≤◌, None, Some}
 use Rattle.addr_project.specs.declared.error.ProjectErr.TheVariants.{DepotFault}
 use Rattle.std.specs.Prelude.{IfSome}
 use Rattle.addr_project.proofs.LoadLemmas.{Told, Anyhow}
+use Rattle.addr_project.proofs.SeenLemmas.{AreThere}
 use Rattle.addr_project.proofs.asset_files.read_assets.Given as goal
 
 abbrev pub invariant-loop-i : goal.invariant-loop-i
@@ -11,5 +12,6 @@ invariant-loop-i g l = record {
   small : l.loaded.total ≤ 268435456;
   never : l.loaded.over ≡ Some DepotFault → ⊥;
   told : IfSome (g.D.Depot.files l.fn.depot) (λ files. Told files l.folder l.rows l.i l.loaded);
+  seen : IfSome (g.D.Depot.files l.fn.depot) (λ files. AreThere files l.folder l.seen.keys);
   any : l.loaded.over ≡ None → Anyhow l.rows l.i l.loaded;
 }

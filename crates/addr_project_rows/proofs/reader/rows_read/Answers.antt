@@ -1,6 +1,7 @@
 use Rattle.std.proofs.Common.{◌≡◌, ◌≤◌, [], ◌∷◌, ◌++◌, length, map, take, Some, None, sym, ap, ◌∙◌, arith}
-use Rattle.std.proofs.lemmas.List.{take_all, length-map, get_or_default}
+use Rattle.std.proofs.lemmas.List.{take_all, length-map}
 use Rattle.std.specs.List.{filter_map}
+use Rattle.std.specs.Option.{unwrap_or}
 use Rattle.toml.specs.View.{view}
 use Rattle.addr_project_rows.specs.Fields.{first_bad}
 use Rattle.addr_project_rows.proofs.FirstLemmas.{first_from-none}
@@ -33,9 +34,7 @@ returns-in-None g c =
     let number = c.in_ok-bad-in-None.ensures.ok in
     record {
       bad_is = ap Some number ∙ sym first;
-      bad_at = rw number (small, λ d. ap g.T.Row.row_of (get_or_default (map view vs) c.loop-i.i d (view v) small ∙ at) ∙ bad);
-      good = ap (λ n. first_bad g.T.Row.row_of (take n (map view vs))) number ∙ c.loop-i.invariant.none;
-      found_is = c.loop-i.invariant.read ∙ ap (λ n. filter_map g.T.Row.row_of (take n (map view vs))) (sym number);
+      found_is = c.loop-i.invariant.read ∙ ap (λ o. filter_map g.T.Row.row_of (take (unwrap_or o (length (map view vs))) (map view vs))) (sym first);
     }
 
 pub returns : goal.returns
@@ -44,9 +43,8 @@ returns g c =
     let past : length ds ≤ c.loop-i.i = rw (length-map c.args.rows.now view) c.loop-i-test.false in
     let whole : take c.loop-i.i ds ≡ ds = take_all c.loop-i.i ds past in
     let all : take (length ds) ds ≡ ds = take_all (length ds) ds (omega arith) in
+    let none : first_bad g.T.Row.row_of ds ≡ None = ap (first_bad g.T.Row.row_of) (sym whole) ∙ c.loop-i.invariant.none in
     record {
-      bad_is = sym (ap (first_bad g.T.Row.row_of) (sym whole) ∙ c.loop-i.invariant.none);
-      bad_at = tt;
-      good = ap (first_bad g.T.Row.row_of) (all ∙ sym whole) ∙ c.loop-i.invariant.none;
-      found_is = c.loop-i.invariant.read ∙ ap (filter_map g.T.Row.row_of) (whole ∙ sym all);
+      bad_is = sym none;
+      found_is = c.loop-i.invariant.read ∙ ap (filter_map g.T.Row.row_of) (whole ∙ sym all) ∙ ap (λ o. filter_map g.T.Row.row_of (take (unwrap_or o (length ds)) ds)) (sym none);
     }

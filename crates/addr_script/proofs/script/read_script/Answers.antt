@@ -1,5 +1,5 @@
 use Rattle.std.proofs.Common.{ℕ, Err, subst}
-use Rattle.addr_script.specs.Scripts.{ReadsFrom}
+use Rattle.addr_script.specs.ScriptParts.{ReadsFrom}
 use Rattle.addr_script.proofs.ScriptLemmas.{script_err}
 use Rattle.addr_script.proofs.script.read_script.Goals as goal
 

@@ -1,11 +1,11 @@
 use Rattle.std.proofs.Common.{rules, ℕ, arith, ◌≡◌, ◌≤◌, ◌+◌, List, length, ap, sym, subst, ◌∙◌}
 use Rattle.addr_turn.specs.declared.board.View.{View}
 use Rattle.addr_turn.specs.Numbers.{times}
-use Rattle.addr_turn.specs.OneHistory.{Begins, domain}
+use Rattle.addr_turn.specs.OneHistory.{IsPrefix, domain}
 use Rattle.addr_turn.specs.Steps.{met_view}
-use Rattle.addr_turn.proofs.Beginnings.{begins_shorter}
+use Rattle.addr_turn.proofs.Prefixes.{prefix_of_longer}
 use Rattle.addr_turn.proofs.Kept.{compares}
-use Rattle.addr_turn.proofs.Meeting.{joins, both_begin, length-longer, met_domain}
+use Rattle.addr_turn.proofs.Meeting.{joins, both_prefixes, length-longer, met_domain}
 use Rattle.addr_turn.proofs.lock.Turns.meet.Goals as goal
 
 pub join_seat-requires : goal.join_seat-requires
@@ -24,9 +24,9 @@ returns-clause-one_history g c = let xs : List g.row.S-Entry.Denot = c.args.firs
     let v : View g.row.S-Entry.Denot g.row.S-Fixed.Denot = met_view c.args.first.place.me.0 c.args.second.place.me.0 in
     let joined : c.join_seat.new.seat.me.0 ≡ v = search rules in let same : c.load.new.seat.me.0 ≡ v = search rules in
     let known = c.load.ensures.2.1 in
-    let begins = both_begin xs ys (subst (λ (z : View g.row.S-Entry.Denot g.row.S-Fixed.Denot). length z.shorter ≤ length z.seen → Begins z.shorter z.seen) joined
-    (λ l. begins_shorter c.join_seat.new.seat.me.0.shorter c.join_seat.new.seat.me.0.seen known.0 known.2.knows.shorter known.2.knows.prefix l)) in
-    subst (λ (z : List g.row.S-Entry.Denot). Begins xs z × Begins ys z) (ap (λ (z : View g.row.S-Entry.Denot g.row.S-Fixed.Denot). z.seen) (sym same)) begins
+    let prefixes = both_prefixes xs ys (subst (λ (z : View g.row.S-Entry.Denot g.row.S-Fixed.Denot). length z.shorter ≤ length z.seen → IsPrefix z.shorter z.seen) joined
+    (λ l. prefix_of_longer c.join_seat.new.seat.me.0.shorter c.join_seat.new.seat.me.0.seen known.0 known.2.knows.shorter known.2.knows.prefix l)) in
+    subst (λ (z : List g.row.S-Entry.Denot). IsPrefix xs z × IsPrefix ys z) (ap (λ (z : View g.row.S-Entry.Denot g.row.S-Fixed.Denot). z.seen) (sym same)) prefixes
 
 pub returns-clause-domains : goal.returns-clause-domains
 returns-clause-domains g c = let v : View g.row.S-Entry.Denot g.row.S-Fixed.Denot = met_view c.args.first.place.me.0 c.args.second.place.me.0 in

@@ -1,5 +1,6 @@
 use Rattle.std.proofs.Common.{◌≡◌, ◌-◌, ◌≤◌, length, vec_len}
-use Rattle.addr_walks.specs.Marks.{Tracks, Searches}
+use Rattle.addr_walks.specs.Marks.{Tracks}
+use Rattle.addr_walks.proofs.MarkLemmas.{Searches}
 use Rattle.addr_walks.proofs.marking.Marked.spread.Given as goal
 
 abbrev pub invariant-loop-done : goal.invariant-loop-done

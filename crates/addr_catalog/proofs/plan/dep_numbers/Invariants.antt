@@ -1,5 +1,0 @@
-use Rattle.std.proofs.Common.{◌≡◌, map, take}
-use Rattle.addr_catalog.proofs.plan.dep_numbers.Given as goal
-
-abbrev pub invariant-loop-bundle : goal.invariant-loop-bundle
-invariant-loop-bundle l = l.numbers ≡ map (λ b. b.0) (take l.bundle-index l.asset.deps)
