@@ -6,5 +6,6 @@ pub mod Ids
 pub mod Images
 pub mod LooseTokens
 pub mod Memory
+pub mod Plans
 pub mod Streams
 pub mod Tokens

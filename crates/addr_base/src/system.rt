@@ -33,11 +33,9 @@ impl<'a, R> FolderDepot<'a, R> {
 }
 
 impl<R: Files> Depot for FolderDepot<'_, R> {
-    ghost use Rattle.std.specs.Prelude.{None};
+    ghost use Rattle.std.specs.Prelude.{None, []};
 
-    ghost files = { λ _. None };
-
-    ghost faults = { λ depot. depot.faults };
+    ghost now = { λ depot. record { files = None; past = []; faults = depot.faults } };
 
     /// A folder under the name is a fault, and so is a file that cannot be read.
     fn read(&mut self, alloc: Global, name: &str) -> Result<Option<Vec<u8>>, DepotErr> {
@@ -91,11 +89,7 @@ impl<'a, R> OutSink<'a, R> {
 impl<R: Print> Sink for OutSink<'_, R> {
     ghost use Rattle.std.specs.Prelude.{None};
 
-    ghost written = { λ _. None };
-
-    ghost puts = { λ sink. sink.puts };
-
-    ghost faults = { λ sink. sink.faults };
+    ghost now = { λ sink. record { written = None; puts = sink.puts; faults = sink.faults } };
 
     fn put(&mut self, bytes: &[u8]) -> Result<(), Failed> {
         self.puts = self.puts.saturating_add(1);

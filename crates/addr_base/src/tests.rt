@@ -1,10 +1,11 @@
 // What no clause says: values from outside, and that each call can succeed.
 use crate::{
-    Depot, DepotErr, Digest, FolderDepot, Guid, MemConn, MemDepot, OutSink, Sink, Text, Var,
+    Depot, DepotErr, Digest, FolderDepot, Guid, MemDepot, MemSink, OutSink, Sink, Text, Var,
     braces, digest, token, untoken, untoken_bytes,
 };
 use std::alloc::Global;
 use std::fs;
+use std::io::Read;
 use std::test::Fail;
 
 #[test]
@@ -78,8 +79,8 @@ fn puts_and_reads_in_memory(rt: HostRuntime) {
     let mut depot = MemDepot::new(Vec::new(rt.alloc()), Vec::new(rt.alloc()));
     assert_eq!(rt; depot.put(rt.alloc(), "b/c", b"2"), Ok(()));
     assert!(rt; matches!(depot.read(rt.alloc(), "b/c"), Ok(Some(_))));
-    let mut conn = MemConn::new(rt.alloc(), Vec::new(rt.alloc()), Vec::new(rt.alloc()));
-    assert!(rt; conn.put(b"12").is_ok());
+    let mut sink = MemSink::new(rt.alloc(), Vec::new(rt.alloc()));
+    assert!(rt; sink.put(b"12").is_ok());
 }
 
 #[test]
@@ -97,7 +98,43 @@ fn replaces_files_below_the_working_folder(rt: HostRuntime) {
         }
     }
     assert!(rt; matches!(depot.read(rt.alloc(), "base_test/a"), Err(DepotErr::Fault)));
+    assert_eq!(rt;
+        depot.put(rt.alloc(), "base_test/a", b"3"),
+        Err(DepotErr::Fault)
+    );
+    assert!(rt; matches!(depot.read(rt.alloc(), "base_test/a/b"), Ok(Some(_))));
     assert!(rt; fs::remove_dir_all(&rt, "base_test").is_ok());
+}
+
+/// A put that wrote over the old file would show a reader parts of both.
+#[test]
+fn lets_a_reader_finish_the_old_file(rt: HostRuntime) -> Result<(), Fail> {
+    let mut depot = FolderDepot::new(&rt);
+    assert_eq!(rt; depot.put(rt.alloc(), "base_old/f", b"old"), Ok(()));
+    let mut reader = fs::open(&rt, "base_old/f")?;
+    assert_eq!(rt; depot.put(rt.alloc(), "base_old/f", b"newer"), Ok(()));
+    let mut seen = Vec::new(rt.alloc());
+    reader.read_to_end(&mut seen)?;
+    assert_eq!(rt; seen.as_slice(), b"old".as_slice());
+    assert!(rt; fs::remove_dir_all(&rt, "base_old").is_ok());
+    Ok(())
+}
+
+/// Each kind of failing put, and what the depot tells afterwards.
+#[test]
+fn fails_with_and_without_effect(rt: HostRuntime) -> Result<(), Fail> {
+    let mut depot = MemDepot::new(Vec::new(rt.alloc()), Vec::from_slice(rt.alloc(), &[1])?);
+    depot.fail_at(2, true)?;
+    depot.fail_at(3, false)?;
+    for (bytes, kept) in [("1", ""), ("2", "2"), ("3", "2")] {
+        assert_eq!(rt;
+            depot.put(rt.alloc(), "f", bytes.as_bytes()),
+            Err(DepotErr::Fault)
+        );
+        let found = depot.file("f").unwrap_or(b"");
+        assert_eq!(rt; found, kept.as_bytes(), "{bytes}");
+    }
+    Ok(())
 }
 
 #[test]

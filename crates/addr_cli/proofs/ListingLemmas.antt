@@ -1,10 +1,10 @@
 -- What a file of rows is read as, from what its bytes are read as.
 use Rattle.std.proofs.Common.{◌≡◌, ℕ, List, Option, Some, None, IfSome, Result, Ok, Err, inl, inr}
-use Rattle.addr_base.specs.Files.{file_at}
+use Rattle.addr_base.specs.Files.{Store, file_at}
 use Rattle.addr_base.specs.declared.files.MemFile.{MemFile}
 use Rattle.addr_locate.specs.Rows.{Rows}
 use Rattle.addr_cli.specs.Listing.{ReadsFile, ReadsRowsFile}
-use Rattle.addr_cli.specs.Outcome.{Store, HasRows}
+use Rattle.addr_cli.specs.Outcome.{HasRows}
 use Rattle.addr_cli.specs.declared.refusal.Refusal.{Refusal}
 use Rattle.addr_cli.specs.declared.refusal.Refusal.TheVariants.{NoMemory, Usage, Depot, BadProject, NoFile, BadCatalogue, BadRows, BadBundle, BadScript, TooLarge}
 

@@ -1,7 +1,7 @@
 -- What a run ends with, from what its command ends with; and that sound files leave it only its text or want of memory.
-use Rattle.std.proofs.Common.{◌≡◌, ◌∙◌, sym, ap, subst, refl, codes, if◌then◌else◌, ℕ, List, [], ◌∷◌, Option, Some, None, IfSome, Result, Ok, Err, ◌⊎◌, inl, inr, arith}
+use Rattle.std.proofs.Common.{◌≡◌, ◌≢◌, ◌∙◌, sym, ap, subst, refl, codes, if◌then◌else◌, ℕ, List, [], ◌∷◌, Option, Some, None, IfSome, Result, Ok, Err, ◌⊎◌, inl, inr, arith}
 use Rattle.addr_base.specs.Faults.{Rose}
-use Rattle.addr_base.specs.Files.{file_at}
+use Rattle.addr_base.specs.Files.{Store, file_at}
 use Rattle.addr_base.specs.declared.files.MemFile.{MemFile}
 use Rattle.addr_unityfs.specs.Faults.{bundle_read}
 use Rattle.addr_project.specs.Model.{Project}
@@ -17,8 +17,9 @@ use Rattle.addr_locate.specs.declared.error.RowsErr.TheVariants.{Line as RowsLin
 use Rattle.addr_script.specs.Scripts.{ReadsScript}
 use Rattle.addr_script.specs.declared.script.Script.{Script}
 use Rattle.addr_script.specs.declared.error.ScriptErr.TheVariants.{Line as ScriptLine}
-use Rattle.addr_cli.specs.Outcome.{Store, Stream, EndsWith, Ends, Simulates, ShowsRows, Inspects, Plans, Planned, IsPlannable, RunsTo, IsReady, IsSound, IsComplete, HasCatalogue, HasPlainRows, HasRows, HasScript, IsBadCatalogue, IsBadPlain}
-use Rattle.addr_cli.specs.Refusals.{ended_status}
+use Rattle.addr_base.specs.Streams.{Stream}
+use Rattle.addr_cli.specs.Outcome.{EndsWith, Ends, Simulates, ShowsRows, Inspects, Plans, Planned, IsPlannable, RunsTo, HasCauses, IsReady, IsSound, IsComplete, HasCatalogue, HasPlainRows, HasRows, HasScript, IsBadCatalogue, IsBadPlain}
+use Rattle.addr_cli.specs.Refusals.{ended_status, refusal_status}
 use Rattle.addr_cli.specs.Words.{Command, simulate, list_rows, inspect, plan, AsksFor, words_of}
 use Rattle.addr_cli.specs.declared.refusal.Refusal.{Refusal}
 use Rattle.addr_cli.specs.declared.refusal.Refusal.TheVariants.{NoMemory, Usage, Depot, BadProject, NoFile, BadCatalogue, BadRows, BadBundle, BadScript, TooLarge}
@@ -175,7 +176,7 @@ through words files depot ended told sound c asks ends =
 
 sound_end : (words : List (List ℕ)) (files : List MemFile) (depot depot' : Store) (ended : Result (List ℕ) Refusal) → depot.files ≡ Some files → IsSound words files → (Rose depot.faults depot'.faults → ⊥) → EndsWith words depot depot' ended → (ended_status ended ≡ 0) ⊎ (ended_status ended ≡ 1)
 sound_end words files depot depot' (Err NoMemory) told sound steady ends = inr refl
-sound_end words files depot depot' (Err Usage) told sound steady ends = absurd (ends (sound.command, sound.asked))
+sound_end words files depot depot' (Err Usage) told sound steady ends = absurd (ends.0 (sound.command, sound.asked))
 sound_end words files depot depot' (Err Depot) told sound steady ends = absurd (steady ends.2)
 sound_end words files depot depot' (Ok text) told sound steady ends = inl refl
 sound_end words files depot depot' (Err (NoFile token)) told sound steady ends = inl (through words files depot (Err (NoFile token)) told sound ends.0 ends.1 ends.2)
@@ -195,3 +196,67 @@ complete words depot depot' out out' status runs = by_files depot.files refl whe
     | inl printed ↦ elim (sound_end words files depot depot' runs.0 e sound steady runs.1) [ inl done ↦ inl (printed.0 ∙ done) | inr memory ↦ inr (printed.0 ∙ memory) ]
     | inr cut ↦ absurd (still cut.1)
   ]
+
+-- a status that isn't the sink's is the end's
+rose_at : (words : List (List ℕ)) (depot depot' : Store) (ended : Result (List ℕ) Refusal) → EndsWith words depot depot' ended → ended_status ended ≡ 3 → Rose depot.faults depot'.faults
+rose_at words depot depot' (Err Depot) ends e = ends.2
+rose_at words depot depot' (Err NoMemory) ends e = absurd (omega (arith, e))
+rose_at words depot depot' (Err Usage) ends e = absurd (omega (arith, e))
+rose_at words depot depot' (Ok text) ends e = absurd (omega (arith, e))
+rose_at words depot depot' (Err (NoFile token)) ends e = absurd (omega (arith, e))
+rose_at words depot depot' (Err (BadCatalogue n)) ends e = absurd (omega (arith, e))
+rose_at words depot depot' (Err (BadRows n)) ends e = absurd (omega (arith, e))
+rose_at words depot depot' (Err (BadBundle token n)) ends e = absurd (omega (arith, e))
+rose_at words depot depot' (Err (BadProject fault)) ends e = absurd (omega (arith, e))
+rose_at words depot depot' (Err (TooLarge which n)) ends e = absurd (omega (arith, e))
+rose_at words depot depot' (Err (BadScript n)) ends e = absurd (omega (arith, e))
+
+kept_at : (words : List (List ℕ)) (depot depot' : Store) (ended : Result (List ℕ) Refusal) → EndsWith words depot depot' ended → ended_status ended ≢ 1 → ended_status ended ≢ 3 → depot'.faults ≡ depot.faults
+kept_at words depot depot' (Err Depot) ends memory fault = absurd (fault refl)
+kept_at words depot depot' (Err NoMemory) ends memory fault = absurd (memory refl)
+kept_at words depot depot' (Err Usage) ends memory fault = ends.1
+kept_at words depot depot' (Ok text) ends memory fault = ends.3
+kept_at words depot depot' (Err (NoFile token)) ends memory fault = ends.3
+kept_at words depot depot' (Err (BadCatalogue n)) ends memory fault = ends.3
+kept_at words depot depot' (Err (BadRows n)) ends memory fault = ends.3
+kept_at words depot depot' (Err (BadBundle token n)) ends memory fault = ends.3
+kept_at words depot depot' (Err (BadProject fault)) ends memory other = ends.3
+kept_at words depot depot' (Err (TooLarge which n)) ends memory fault = ends.3
+kept_at words depot depot' (Err (BadScript n)) ends memory fault = ends.3
+
+not_sink : (refusal : Refusal) → refusal_status refusal ≢ 13
+not_sink NoMemory e = omega (arith, e)
+not_sink Usage e = omega (arith, e)
+not_sink Depot e = omega (arith, e)
+not_sink (BadProject fault) e = omega (arith, e)
+not_sink (NoFile token) e = omega (arith, e)
+not_sink (BadCatalogue n) e = omega (arith, e)
+not_sink (BadRows n) e = omega (arith, e)
+not_sink (BadBundle token n) e = omega (arith, e)
+not_sink (BadScript n) e = omega (arith, e)
+not_sink (TooLarge which n) e = omega (arith, e)
+
+end_not_sink : (ended : Result (List ℕ) Refusal) → ended_status ended ≢ 13
+end_not_sink (Ok text) e = omega (arith, e)
+end_not_sink (Err refusal) e = not_sink refusal e
+
+-- the causes of a run's status
+pub causes : (words : List (List ℕ)) (depot depot' : Store) (out out' : Stream) (status : ℕ) → RunsTo words depot depot' out out' status → HasCauses depot depot' out out' status
+causes words depot depot' out out' status runs = record {
+  depot_rose = λ e. elim runs.2 [
+    | inl printed ↦ rose_at words depot depot' runs.0 runs.1 (sym printed.0 ∙ e)
+    | inr cut ↦ absurd (omega (arith, cut.0, e))
+  ];
+  depot_kept = λ memory fault sink. elim runs.2 [
+    | inl printed ↦ kept_at words depot depot' runs.0 runs.1 (λ e. memory (printed.0 ∙ e)) (λ e. fault (printed.0 ∙ e))
+    | inr cut ↦ absurd (sink cut.0)
+  ];
+  sink_rose = λ e. elim runs.2 [
+    | inl printed ↦ absurd (end_not_sink runs.0 (sym printed.0 ∙ e))
+    | inr cut ↦ cut.1
+  ];
+  sink_kept = λ sink. elim runs.2 [
+    | inl printed ↦ printed.1
+    | inr cut ↦ absurd (sink cut.0)
+  ];
+}

@@ -1,7 +1,7 @@
 -- What a file of rows is read as: its bytes by its name, and the file where its depot tells its files.
 use Rattle.std.specs.Prelude.{ℕ, ◌≡◌, ◌⊎◌, List, None, Result, Ok, Err, IfSome}
 use Rattle.addr_base.specs.Faults.{Rose}
-use Rattle.addr_base.specs.Files.{file_at}
+use Rattle.addr_base.specs.Files.{Store, file_at}
 use Rattle.addr_base.specs.Tokens.{token_of}
 use Rattle.addr_catalog.specs.Catalogue.{catalogue_read}
 use Rattle.addr_catalog.specs.Numbers.{error_number}
@@ -10,7 +10,7 @@ use Rattle.addr_catalog.specs.declared.error.CatErr.{CatErr}
 use Rattle.addr_locate.specs.PlainRows.{ReadsRows}
 use Rattle.addr_locate.specs.Rows.{Rows}
 use Rattle.addr_locate.specs.declared.error.RowsErr.TheVariants.{Line as RowsLine}
-use Rattle.addr_cli.specs.Outcome.{HasRows, IsBadCatalogue, IsBadPlain, Store}
+use Rattle.addr_cli.specs.Outcome.{HasRows, IsBadCatalogue, IsBadPlain}
 use Rattle.addr_cli.specs.Words.{IsJsonName}
 use Rattle.addr_cli.specs.declared.refusal.Refusal.{Refusal}
 use Rattle.addr_cli.specs.declared.refusal.Refusal.TheVariants.{NoMemory, Depot, NoFile, BadCatalogue, BadRows}

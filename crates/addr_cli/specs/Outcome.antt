@@ -1,7 +1,8 @@
 -- What a command line ends with: the text that it prints, or why it is refused.
-use Rattle.std.specs.Prelude.{ℕ, ◌≡◌, ◌≢◌, ◌<◌, ◌≤◌, ◌++◌, List, [], Option, Some, None, Result, Ok, Err, IfSome, IsNone, MatchOption, unwrap_or, take, ◌⊎◌}
+use Rattle.std.specs.Prelude.{ℕ, ◌≡◌, ◌≢◌, ◌<◌, ◌≤◌, ◌++◌, List, [], Some, None, Result, Ok, Err, IfSome, IsNone, MatchOption, unwrap_or, take, ◌⊎◌}
 use Rattle.addr_base.specs.Faults.{Rose}
-use Rattle.addr_base.specs.Files.{file_at}
+use Rattle.addr_base.specs.Files.{Store, file_at}
+use Rattle.addr_base.specs.Streams.{Stream}
 use Rattle.addr_base.specs.Tokens.{token_of}
 use Rattle.addr_base.specs.declared.files.MemFile.{MemFile}
 use Rattle.addr_unityfs.specs.Faults.{bundle_read, fault_number}
@@ -128,15 +129,6 @@ pub record IsPlannable (files : List MemFile) (folder : List ℕ) : Type 0 where
   pub members : (placement : Plan) (n : ℕ) → IsPlaced project placement → IsMembersCount project placement n → n ≤ plan_limit
   pub deps : (placement : Plan) (n : ℕ) → IsPlaced project placement → IsDepsCount project placement n → n ≤ plan_limit
 
--- a depot at a moment: its files, where it tells them, and its count of faults; a sink: what it was given, and its count
-pub record Store : Type 0 where
-  pub files : Option (List MemFile)
-  pub faults : ℕ
-
-pub record Stream : Type 0 where
-  pub written : Option (List ℕ)
-  pub faults : ℕ
-
 -- what reading a file ends with, where its depot tells its files
 abbrev pub IsRead : Store → Store → List ℕ → Result (List ℕ) Refusal → Type 0
 IsRead old new name (Ok bytes) = IfSome old.files (λ files. file_at name files ≡ Some bytes)
@@ -152,6 +144,12 @@ Ends (list_rows file) files ended = ShowsRows files file ended
 Ends (inspect file) files ended = Inspects files file ended
 Ends (plan folder) files ended = Plans files folder ended
 
+-- the depot's count of faults rose where the answer is a fault of the depot, and else stayed
+abbrev pub CountsFault : {T : Type 0} → Store → Store → Result T Refusal → Type 0
+CountsFault old new (Ok done) = new.faults ≡ old.faults
+CountsFault old new (Err Depot) = Rose old.faults new.faults
+CountsFault old new (Err _) = new.faults ≡ old.faults
+
 -- what a command ends with: a fault of the depot only where its count rose, want of memory at any place
 abbrev pub CommandEnds : Command → Store → Store → Result (List ℕ) Refusal → Type 0
 CommandEnds c old new (Err NoMemory) = Unit {0}
@@ -159,15 +157,15 @@ CommandEnds c old new (Err Depot) = Rose old.faults new.faults
 CommandEnds c old new (Err Usage) = ⊥
 CommandEnds c old new ended = IfSome old.files (λ files. Ends c files ended)
 
--- what words end with: usage exactly where they are no command's
+-- what words end with: usage exactly where they are no command's; no fault is passed over
 abbrev pub EndsWith : List (List ℕ) → Store → Store → Result (List ℕ) Refusal → Type 0
 EndsWith words old new (Err NoMemory) = Unit {0}
-EndsWith words old new (Err Usage) = IsCommandLine words → ⊥
-EndsWith words old new ended = (c : Command) × AsksFor words c × CommandEnds c old new ended
+EndsWith words old new (Err Usage) = (IsCommandLine words → ⊥) × (new.faults ≡ old.faults)
+EndsWith words old new ended = (c : Command) × AsksFor words c × CommandEnds c old new ended × CountsFault old new ended
 
--- the whole text was written, and the status is the text's
+-- the whole text was written, no fault was counted, and the status is the text's
 abbrev pub IsPrinted : ℕ → List ℕ → ℕ → Stream → Stream → Type 0
-IsPrinted code text status old new = (status ≡ code) × MatchOption old.written (IsNone new.written) (λ before. new.written ≡ Some (before ++ text))
+IsPrinted code text status old new = (status ≡ code) × (new.faults ≡ old.faults) × MatchOption old.written (IsNone new.written) (λ before. new.written ≡ Some (before ++ text))
 
 -- the sink failed, and a prefix of the text was written
 abbrev pub IsCutShort : List ℕ → ℕ → Stream → Stream → Type 0
@@ -179,6 +177,18 @@ Prints code text status old new = IsPrinted code text status old new ⊎ IsCutSh
 -- how a run ends: with one text, and the status that is the text's
 abbrev pub RunsTo : List (List ℕ) → Store → Store → Stream → Stream → ℕ → Type 0
 RunsTo words depot depot_after out out_after status = (ended : Result (List ℕ) Refusal) × EndsWith words depot depot_after ended × Prints (ended_status ended) (ended_text ended) status out out_after
+
+-- the causes of a status: 3 only where the depot's count of faults rose, 13 exactly where the sink's did. With another status
+-- but 1 no fault of the depot was met.
+pub record HasCauses (depot depot_after : Store) (out out_after : Stream) (status : ℕ) : Type 0 where
+  pub depot_rose : status ≡ 3 → Rose depot.faults depot_after.faults
+  pub depot_kept : status ≢ 1 → status ≢ 3 → status ≢ 13 → depot_after.faults ≡ depot.faults
+  pub sink_rose : status ≡ 13 → Rose out.faults out_after.faults
+  pub sink_kept : status ≢ 13 → out_after.faults ≡ out.faults
+
+-- words of a command are never usage, and other words are nothing else but where the sink failed
+abbrev pub IsUsage : List (List ℕ) → ℕ → Type 0
+IsUsage words status = (IsCommandLine words → status ≢ 2) × ((IsCommandLine words → ⊥) → (status ≡ 2) ⊎ (status ≡ 13))
 
 -- the files that a command needs are there, and are taken by their readers
 abbrev pub IsReady : Command → List MemFile → Type 0

@@ -3,7 +3,7 @@ use Rattle.std.specs.Prelude.{ℕ, List, Result, Ok, Err, IfSome}
 use Rattle.addr_base.specs.Faults.{Rose}
 use Rattle.addr_project.specs.Model.{Project}
 use Rattle.addr_project.specs.Reading.{ProjectOf, ProjectFault}
-use Rattle.addr_cli.specs.Outcome.{Store}
+use Rattle.addr_base.specs.Files.{Store}
 use Rattle.addr_cli.specs.declared.refusal.Refusal.{Refusal}
 use Rattle.addr_cli.specs.declared.refusal.Refusal.TheVariants.{NoMemory, Depot, BadProject}
 

@@ -1,11 +1,12 @@
 // `inspect`: a bundle file's nodes, and the objects of its asset table or why it has none.
 ghost use Rattle.std.specs.Prelude.{◌≡◌, ◌≢◌, ◌⊎◌, Ok, Err, IfOk};
+ghost use Rattle.addr_base.specs.Files.{SameStore};
 ghost use Rattle.addr_base.specs.Tokens.{token_of};
 ghost use Rattle.addr_unityfs.specs.Faults.{bundle_read, fault_number};
 ghost use Rattle.addr_unityfs.specs.Format.{IsBundle};
 ghost use Rattle.addr_unityfs.specs.declared.error.FsErr.TheVariants as faults;
 ghost use Rattle.addr_cli.specs.Inspecting.{IsBadBundle, Shows};
-ghost use Rattle.addr_cli.specs.Outcome.{CommandEnds};
+ghost use Rattle.addr_cli.specs.Outcome.{CommandEnds, CountsFault};
 ghost use Rattle.addr_cli.specs.Words.{inspect};
 
 use crate::files::read_file;
@@ -18,8 +19,9 @@ use std::alloc::Global;
 
 /// What the file holds, as text.
 pub fn inspect_file<D: Depot>(alloc: Global, file: &Text, depot: &mut D) -> Result<Text, Refusal>
-    ensures ends { CommandEnds (inspect file.now) (record { files = D.files depot.old; faults = D.faults depot.old }) (record { files = D.files depot.new; faults = D.faults depot.new }) result }
-    ensures same { D.files depot.new ≡ D.files depot.old }
+    ensures ends { CommandEnds (inspect file.now) (D.now depot.old) (D.now depot.new) result }
+    ensures cause { CountsFault (D.now depot.old) (D.now depot.new) result }
+    ensures same { SameStore (D.now depot.old) (D.now depot.new) }
 {
     let bytes = read_file(alloc, depot, file)?;
     match read_bundle(alloc, bytes.as_slice()) {

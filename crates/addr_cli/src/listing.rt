@@ -1,8 +1,9 @@
 // Rows of a file: a catalogue's where its name ends with `.json`, and the plain form otherwise; and `rows`, which prints a
 // catalogue's in the plain form.
 ghost use Rattle.std.specs.Prelude.{◌≡◌, ◌<◌, ◌≤◌, ◌^◌, ◌↔◌, length, IsTrue};
+ghost use Rattle.addr_base.specs.Files.{SameStore};
 ghost use Rattle.addr_cli.specs.Listing.{ReadsCatalogue, ReadsFile, ReadsRowsFile};
-ghost use Rattle.addr_cli.specs.Outcome.{CommandEnds};
+ghost use Rattle.addr_cli.specs.Outcome.{CommandEnds, CountsFault};
 ghost use Rattle.addr_cli.specs.Words.{IsJsonName, list_rows};
 
 use crate::files::read_file;
@@ -15,8 +16,9 @@ use std::alloc::Global;
 
 /// The rows of the catalogue that the file is, as text.
 pub fn rows_text<D: Depot>(alloc: Global, file: &Text, depot: &mut D) -> Result<Text, Refusal>
-    ensures ends { CommandEnds (list_rows file.now) (record { files = D.files depot.old; faults = D.faults depot.old }) (record { files = D.files depot.new; faults = D.faults depot.new }) result }
-    ensures same { D.files depot.new ≡ D.files depot.old }
+    ensures ends { CommandEnds (list_rows file.now) (D.now depot.old) (D.now depot.new) result }
+    ensures cause { CountsFault (D.now depot.old) (D.now depot.new) result }
+    ensures same { SameStore (D.now depot.old) (D.now depot.new) }
 {
     let bytes = read_file(alloc, depot, file)?;
     let catalogue = catalogue_of(alloc, bytes.as_slice())?;
@@ -30,9 +32,9 @@ pub fn read_rows_file<D: Depot>(
     name: &Text,
     depot: &mut D,
 ) -> Result<Locator, Refusal>
-    ensures read { ReadsRowsFile name.now (record { files = D.files depot.old; faults = D.faults depot.old }) (record { files = D.files depot.new; faults = D.faults depot.new }) result }
-    ensures same { D.files depot.new ≡ D.files depot.old }
-    ensures later { D.faults depot.old ≤ D.faults depot.new }
+    ensures read { ReadsRowsFile name.now (D.now depot.old) (D.now depot.new) result }
+    ensures same { SameStore (D.now depot.old) (D.now depot.new) }
+    ensures cause { CountsFault (D.now depot.old) (D.now depot.new) result }
 {
     let bytes = read_file(alloc, depot, name)?;
     rows_of(alloc, name, bytes.as_slice())

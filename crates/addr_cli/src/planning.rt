@@ -1,6 +1,7 @@
 // `plan`: the bundles that a project folder is packed into. Both limits are tested before a layout is made.
 ghost use Rattle.std.specs.Prelude.{◌≡◌};
-ghost use Rattle.addr_cli.specs.Outcome.{CommandEnds, Planned};
+ghost use Rattle.addr_base.specs.Files.{SameStore};
+ghost use Rattle.addr_cli.specs.Outcome.{CommandEnds, CountsFault, Planned};
 ghost use Rattle.addr_cli.specs.Planning.{ReadsProject};
 ghost use Rattle.addr_cli.specs.Words.{plan as plan_command};
 
@@ -17,16 +18,18 @@ const MOST: u64 = 4_000_000;
 
 /// The bundles of the folder's project, as text.
 pub fn plan_folder<D: Depot>(alloc: Global, folder: &Text, depot: &mut D) -> Result<Text, Refusal>
-    ensures ends { CommandEnds (plan_command folder.now) (record { files = D.files depot.old; faults = D.faults depot.old }) (record { files = D.files depot.new; faults = D.faults depot.new }) result }
-    ensures same { D.files depot.new ≡ D.files depot.old }
+    ensures ends { CommandEnds (plan_command folder.now) (D.now depot.old) (D.now depot.new) result }
+    ensures cause { CountsFault (D.now depot.old) (D.now depot.new) result }
+    ensures same { SameStore (D.now depot.old) (D.now depot.new) }
 {
     let project = read_project(alloc, folder, depot)?;
     planned(alloc, &project)
 }
 
 fn read_project<D: Depot>(alloc: Global, folder: &Text, depot: &mut D) -> Result<Project, Refusal>
-    ensures read { ReadsProject folder.now (record { files = D.files depot.old; faults = D.faults depot.old }) (record { files = D.files depot.new; faults = D.faults depot.new }) result }
-    ensures same { D.files depot.new ≡ D.files depot.old }
+    ensures read { ReadsProject folder.now (D.now depot.old) (D.now depot.new) result }
+    ensures cause { CountsFault (D.now depot.old) (D.now depot.new) result }
+    ensures same { SameStore (D.now depot.old) (D.now depot.new) }
 {
     match Project::read(alloc, depot, folder.as_str()) {
         Ok(project) => Ok(project),

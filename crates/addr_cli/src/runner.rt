@@ -1,8 +1,10 @@
 // A command line from its words to its status. The rows are read and tested before the script.
-ghost use Rattle.std.specs.Prelude.{◌≡◌};
-ghost use Rattle.addr_base.specs.Faults.{Rose, one_more};
-ghost use Rattle.addr_cli.specs.Outcome.{CommandEnds, EndsWith, IsComplete, RunsTo};
+ghost use Rattle.std.specs.Prelude.{◌≡◌, Err};
+ghost use Rattle.addr_base.specs.Faults.{one_more};
+ghost use Rattle.addr_base.specs.Files.{SameStore};
+ghost use Rattle.addr_cli.specs.Outcome.{CommandEnds, CountsFault, EndsWith, HasCauses, IsComplete, IsUsage, RunsTo};
 ghost use Rattle.addr_cli.specs.Words.{IsCommandLine, simulate};
+ghost use Rattle.addr_cli.specs.declared.refusal.Refusal.TheVariants.{Usage};
 
 use crate::command::{Request, request_of};
 use crate::files::read_file;
@@ -19,21 +21,21 @@ use std::alloc::Global;
 
 /// Runs the command that the words are, over the depot's files, and prints to the sink by one put. Every file stays.
 pub fn run<D: Depot, K: Sink>(alloc: Global, words: &[Text], depot: &mut D, out: &mut K) -> Status
-    ensures outcome { RunsTo words.now (record { files = D.files depot.old; faults = D.faults depot.old }) (record { files = D.files depot.new; faults = D.faults depot.new }) (record { written = K.written out.old; faults = K.faults out.old }) (record { written = K.written out.new; faults = K.faults out.new }) result.0 }
-    ensures one_put { K.puts out.new ≡ one_more (K.puts out.old) }
-    ensures usage { IsCommandLine words.now → result.0 ≡ 2 → ⊥ }
-    ensures depot_fault { result.0 ≡ 3 → Rose (D.faults depot.old) (D.faults depot.new) }
-    ensures sink_fault { result.0 ≡ 13 → Rose (K.faults out.old) (K.faults out.new) }
-    ensures complete { IsComplete words.now (record { files = D.files depot.old; faults = D.faults depot.old }) (record { files = D.files depot.new; faults = D.faults depot.new }) (record { written = K.written out.old; faults = K.faults out.old }) (record { written = K.written out.new; faults = K.faults out.new }) result.0 }
-    ensures same { D.files depot.new ≡ D.files depot.old }
+    ensures outcome { RunsTo words.now (D.now depot.old) (D.now depot.new) (K.now out.old) (K.now out.new) result.0 }
+    ensures causes { HasCauses (D.now depot.old) (D.now depot.new) (K.now out.old) (K.now out.new) result.0 }
+    ensures usage { IsUsage words.now result.0 }
+    ensures complete { IsComplete words.now (D.now depot.old) (D.now depot.new) (K.now out.old) (K.now out.new) result.0 }
+    ensures one_put { (K.now out.new).puts ≡ one_more (K.now out.old).puts }
+    ensures same { SameStore (D.now depot.old) (D.now depot.new) }
 {
     let ended = command_text(alloc, words, depot);
     report(alloc, ended, out)
 }
 
 fn command_text<D: Depot>(alloc: Global, words: &[Text], depot: &mut D) -> Result<Text, Refusal>
-    ensures ends { EndsWith words.now (record { files = D.files depot.old; faults = D.faults depot.old }) (record { files = D.files depot.new; faults = D.faults depot.new }) result }
-    ensures same { D.files depot.new ≡ D.files depot.old }
+    ensures ends { EndsWith words.now (D.now depot.old) (D.now depot.new) result }
+    ensures usage { (IsCommandLine words.now → ⊥) → result ≡ Err Usage }
+    ensures same { SameStore (D.now depot.old) (D.now depot.new) }
 {
     match request_of(words) {
         Some(Request::Simulate { rows, script }) => simulate_files(alloc, rows, script, depot),
@@ -50,8 +52,9 @@ fn simulate_files<D: Depot>(
     script: &Text,
     depot: &mut D,
 ) -> Result<Text, Refusal>
-    ensures ends { CommandEnds (simulate rows.now script.now) (record { files = D.files depot.old; faults = D.faults depot.old }) (record { files = D.files depot.new; faults = D.faults depot.new }) result }
-    ensures same { D.files depot.new ≡ D.files depot.old }
+    ensures ends { CommandEnds (simulate rows.now script.now) (D.now depot.old) (D.now depot.new) result }
+    ensures cause { CountsFault (D.now depot.old) (D.now depot.new) result }
+    ensures same { SameStore (D.now depot.old) (D.now depot.new) }
 {
     let locator = read_rows_file(alloc, rows, depot)?;
     let bytes = read_file(alloc, depot, script)?;

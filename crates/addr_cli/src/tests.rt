@@ -3,7 +3,7 @@ ghost use Rattle.std.specs.Prelude.{◌<◌, ◌^◌, length};
 
 use crate::runner::run;
 use crate::status::Status;
-use addr_base::{Digest, Items, MemConn, MemDepot, MemFile, Text};
+use addr_base::{Digest, Items, MemDepot, MemFile, MemSink, Text};
 use addr_catalog::{Catalogue, can_write, write_catalog};
 use addr_locate::read_rows;
 use std::alloc::Global;
@@ -69,11 +69,7 @@ fn ends(
 ) -> Result<bool, Fail> {
     let words = words_of(alloc, line)?;
     let mut depot = MemDepot::new(files, Vec::from_slice(alloc, &[faults.depot])?);
-    let mut out = MemConn::new(
-        alloc,
-        Vec::new(alloc),
-        Vec::from_slice(alloc, &[faults.sink])?,
-    );
+    let mut out = MemSink::new(alloc, Vec::from_slice(alloc, &[faults.sink])?);
     let ended = run(alloc, words.as_slice(), &mut depot, &mut out);
     Ok(ended == Status(status) && out.written() == text.as_bytes())
 }

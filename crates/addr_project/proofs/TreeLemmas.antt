@@ -8,7 +8,6 @@ use Rattle.std.specs.Option.{option_map, unwrap_or}
 use Rattle.toml.specs.Data.{Data, string, table, Members, get_member}
 use Rattle.addr_base.specs.Ids.{Are16Bytes}
 use Rattle.addr_base.specs.declared.ids.Guid.{Guid}
-use Rattle.addr_base.specs.declared.var.Var.{Var}
 use Rattle.addr_walks.specs.Once.{AreOnce}
 use Rattle.addr_project.specs.declared.error.ProjectErr.TheVariants.{BadField}
 use Rattle.addr_project.specs.declared.limit.Part.TheVariants as part

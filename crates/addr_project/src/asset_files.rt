@@ -5,6 +5,7 @@ ghost use Rattle.std.specs.Cmp.Lexicographic.{slice_cmp};
 ghost use Rattle.std.specs.Option.{is_some};
 ghost use Rattle.std.specs.Ordering.{nat_cmp};
 ghost use Rattle.std.specs.Prelude.{◌≡◌, ◌<◌, ◌≤◌, ◌+◌, ◌^◌, ◌&&◌, Some, IfOk, IfSome, IfNone, string_bytes, vec_len};
+ghost use Rattle.addr_base.specs.Files.{SameStore};
 ghost use Rattle.addr_project.specs.AssetFiles.{ReadsAssets, KeepsRows};
 ghost use Rattle.addr_project.specs.Loading.{Adds};
 ghost use Rattle.addr_project.specs.Reading.{path, asset_from, over_after};
@@ -43,10 +44,10 @@ pub fn read_assets<D: Depot>(
     folder: &str,
     rows: &[AssetRow],
 ) -> Result<Items<Asset>, ProjectErr>
-    ensures told { IfSome (D.files depot.old) (λ files. ReadsAssets files folder.now rows.now result) }
+    ensures told { IfSome (D.now depot.old).files (λ files. ReadsAssets files folder.now rows.now result) }
     ensures kept { IfOk result (KeepsRows rows.now) }
-    ensures same { D.files depot.new ≡ D.files depot.old }
-    ensures cause { FaultHasCause (D.faults depot.old) (D.faults depot.new) result }
+    ensures same { SameStore (D.now depot.old) (D.now depot.new) }
+    ensures cause { FaultHasCause (D.now depot.old).faults (D.now depot.new).faults result }
 {
     let mut loaded = Loaded {
         assets: Items::new(alloc),

@@ -1,5 +1,6 @@
 // The bytes of a project file as a TOML document.
 ghost use Rattle.std.specs.Prelude.{◌≡◌, ◌⊎◌, Some, None, IfOk, IfErr, IfSome};
+ghost use Rattle.addr_base.specs.Files.{SameStore};
 ghost use Rattle.toml.specs.View.{table_view};
 ghost use Rattle.addr_project.specs.Causes.{FaultHasCause};
 ghost use Rattle.addr_project.specs.Reading.{tree_of};
@@ -32,9 +33,9 @@ pub fn parse(alloc: Global, bytes: &[u8]) -> Result<Table, ProjectErr>
 
 /// The document of a folder's project file.
 pub fn read_tree<D: Depot>(alloc: Global, depot: &mut D, folder: &str) -> Result<Table, ProjectErr>
-    ensures told { IfSome (D.files depot.old) (λ files. ReadsTree files folder.now result) }
-    ensures same { D.files depot.new ≡ D.files depot.old }
-    ensures cause { FaultHasCause (D.faults depot.old) (D.faults depot.new) result }
+    ensures told { IfSome (D.now depot.old).files (λ files. ReadsTree files folder.now result) }
+    ensures same { SameStore (D.now depot.old) (D.now depot.new) }
+    ensures cause { FaultHasCause (D.now depot.old).faults (D.now depot.new).faults result }
 {
     let name = path_of(alloc, folder, "project.toml")?;
     match depot.read(alloc, name.as_str())? {

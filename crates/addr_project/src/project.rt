@@ -1,5 +1,6 @@
 // The type of a project. Its fields are private, so that each value keeps what the tests of reading found out.
 ghost use Rattle.std.specs.Prelude.{◌≡◌, ◌⊎◌, Ok, Err, IfOk, IfErr, IfSome};
+ghost use Rattle.addr_base.specs.Files.{SameStore};
 ghost use Rattle.addr_project.specs.Causes.{FaultHasCause};
 ghost use Rattle.addr_expansion.specs.Expansion.{expanded};
 ghost use Rattle.addr_project.specs.Kept.{IsKept};
@@ -59,9 +60,9 @@ impl Model for Project {
 impl Project {
     /// Reads the project file of a folder, whose name is given without a `/` at its end, and the files of its assets.
     pub fn read<D: Depot>(alloc: Global, depot: &mut D, folder: &str) -> Result<Project, ProjectErr>
-        ensures told { IfSome (D.files depot.old) (λ files. Reads files folder.now result) }
-        ensures same { D.files depot.new ≡ D.files depot.old }
-        ensures cause { FaultHasCause (D.faults depot.old) (D.faults depot.new) result }
+        ensures told { IfSome (D.now depot.old).files (λ files. Reads files folder.now result) }
+        ensures same { SameStore (D.now depot.old) (D.now depot.new) }
+        ensures cause { FaultHasCause (D.now depot.old).faults (D.now depot.new).faults result }
     {
         let tree = read_tree(alloc, depot, folder)?;
         let parts = match parts_of(alloc, &tree) {

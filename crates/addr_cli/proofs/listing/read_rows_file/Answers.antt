@@ -1,4 +1,4 @@
-use Rattle.std.proofs.Common.{List, ℕ, sym, subst}
+use Rattle.std.proofs.Common.{List, ℕ, subst}
 use Rattle.addr_cli.specs.Listing.{ReadsFile}
 use Rattle.addr_cli.proofs.ListingLemmas.{rows_read}
 use Rattle.addr_cli.proofs.listing.read_rows_file.Goals as goal
@@ -6,4 +6,4 @@ use Rattle.addr_cli.proofs.listing.read_rows_file.Goals as goal
 pub returns-clause-read : goal.returns-clause-read
 returns-clause-read g c =
     let R : List ℕ → Type 0 = λ bytes. ReadsFile c.args.name.now bytes c.rows_of.result in
-    rows_read c.args.name.now c.in_ok-bytes.bytes (record { files = g.D.Depot.files c.args.depot.now; faults = g.D.Depot.faults c.args.depot.now }) (record { files = g.D.Depot.files c.read_file.new.depot; faults = g.D.Depot.faults c.read_file.new.depot }) c.rows_of.result c.in_ok-bytes.ensures.read (subst R c.as_slice.ensures c.rows_of.ensures)
+    rows_read c.args.name.now c.in_ok-bytes.bytes (g.D.Depot.now c.args.depot.now) (g.D.Depot.now c.read_file.new.depot) c.rows_of.result c.in_ok-bytes.ensures.read (subst R c.as_slice.ensures c.rows_of.ensures)

@@ -1,4 +1,5 @@
 use Rattle.std.proofs.Common.{◌≡◌, ◌≤◌, None, Some}
+use Rattle.addr_base.specs.Files.{SameStore}
 use Rattle.addr_project.specs.declared.error.ProjectErr.TheVariants.{DepotFault}
 use Rattle.std.specs.Prelude.{IfSome}
 use Rattle.addr_project.proofs.LoadLemmas.{Told, Anyhow}
@@ -7,11 +8,11 @@ use Rattle.addr_project.proofs.asset_files.read_assets.Given as goal
 
 abbrev pub invariant-loop-i : goal.invariant-loop-i
 invariant-loop-i g l = record {
-  files : g.D.Depot.files l.depot ≡ g.D.Depot.files l.fn.depot;
-  later : g.D.Depot.faults l.fn.depot ≤ g.D.Depot.faults l.depot;
+  same : SameStore (g.D.Depot.now l.fn.depot) (g.D.Depot.now l.depot);
+  faults : (g.D.Depot.now l.depot).faults ≡ (g.D.Depot.now l.fn.depot).faults;
   small : l.loaded.total ≤ 268435456;
   never : l.loaded.over ≡ Some DepotFault → ⊥;
-  told : IfSome (g.D.Depot.files l.fn.depot) (λ files. Told files l.folder l.rows l.i l.loaded);
-  seen : IfSome (g.D.Depot.files l.fn.depot) (λ files. AreThere files l.folder l.seen.keys);
+  told : IfSome ((g.D.Depot.now l.fn.depot).files) (λ files. Told files l.folder l.rows l.i l.loaded);
+  seen : IfSome ((g.D.Depot.now l.fn.depot).files) (λ files. AreThere files l.folder l.seen.keys);
   any : l.loaded.over ≡ None → Anyhow l.rows l.i l.loaded;
 }

@@ -12,8 +12,8 @@ pub returns-in-Ok-clause-told : goal.returns-in-Ok-clause-told
 returns-in-Ok-clause-told g c =
     let folder = c.args.folder.now in
     let name_is : c.as_str.result.now ≡ path folder (codes "project.toml") = c.as_str.ensures.value ∙ c.in_ok-name.ensures in
-    if-some (g.D.Depot.files c.args.depot.now) _ (λ files is. (
-    let content = if-some-at _ (g.D.Depot.files c.args.depot.now) files is c.in_ok-bytes.ensures.content in
+    if-some ((g.D.Depot.now c.args.depot.now).files) _ (λ files is. (
+    let content = if-some-at _ ((g.D.Depot.now c.args.depot.now).files) files is c.in_ok-bytes.ensures.content in
     let some : file_at (path folder (codes "project.toml")) files ≡ Some c.in-Some.bytes.items = ap (λ n. file_at n files) (sym name_is) ∙ sym content ∙ ap (option_map (λ v. v.items)) c.in-Some.is in
     folder-tree files folder c.in-Some.bytes.items (Some (table_view c.in-Ok.tree)) some (ap tree_of (sym c.as_slice.ensures.value) ∙ c.in-Ok.ensures.ok)))
 
@@ -21,8 +21,8 @@ pub returns-in-Some-clause-told : goal.returns-in-Some-clause-told
 returns-in-Some-clause-told g c =
     let folder = c.args.folder.now in
     let name_is : c.as_str.result.now ≡ path folder (codes "project.toml") = c.as_str.ensures.value ∙ c.in_ok-name.ensures in
-    if-some (g.D.Depot.files c.args.depot.now) _ (λ files is. (
-    let content = if-some-at _ (g.D.Depot.files c.args.depot.now) files is c.in_ok-bytes.ensures.content in
+    if-some ((g.D.Depot.now c.args.depot.now).files) _ (λ files is. (
+    let content = if-some-at _ ((g.D.Depot.now c.args.depot.now).files) files is c.in_ok-bytes.ensures.content in
     let some : file_at (path folder (codes "project.toml")) files ≡ Some c.in-Some.bytes.items = ap (λ n. file_at n files) (sym name_is) ∙ sym content ∙ ap (option_map (λ v. v.items)) c.in-Some.is in
     elim c.in-Err.ensures.err [
       | inl memory ↦ inl memory
@@ -33,7 +33,7 @@ pub returns-clause-told : goal.returns-clause-told
 returns-clause-told g c =
     let folder = c.args.folder.now in
     let name_is : c.as_str.result.now ≡ path folder (codes "project.toml") = c.as_str.ensures.value ∙ c.in_ok-name.ensures in
-    if-some (g.D.Depot.files c.args.depot.now) _ (λ files is. (
-    let content = if-some-at _ (g.D.Depot.files c.args.depot.now) files is c.in_ok-bytes.ensures.content in
+    if-some ((g.D.Depot.now c.args.depot.now).files) _ (λ files is. (
+    let content = if-some-at _ ((g.D.Depot.now c.args.depot.now).files) files is c.in_ok-bytes.ensures.content in
     let none : file_at (path folder (codes "project.toml")) files ≡ None = ap (λ n. file_at n files) (sym name_is) ∙ sym content ∙ ap (option_map (λ v. v.items)) c.in-None.is in
     inr (inr (folder-none files folder none))))

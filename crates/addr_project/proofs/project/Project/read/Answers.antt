@@ -19,17 +19,17 @@ returns-clause-told g c =
     let tv = table_view c.in_ok-tree.tree in
     let folder = c.args.folder.now in
     let (none, are) = c.in-Ok.ensures.ok in
-    if-some (g.D.Depot.files c.args.depot.now) _ (λ files is. (
-    let tree = if-some-at _ (g.D.Depot.files c.args.depot.now) files is c.in_ok-tree.ensures.told in
-    let read = if-some-at _ (g.D.Depot.files c.read_tree.new.depot) files (c.in_ok-tree.ensures.same ∙ is) c.in-Ok-read_assets.ensures.told in
+    if-some ((g.D.Depot.now c.args.depot.now).files) _ (λ files is. (
+    let tree = if-some-at _ ((g.D.Depot.now c.args.depot.now).files) files is c.in_ok-tree.ensures.told in
+    let read = if-some-at _ ((g.D.Depot.now c.read_tree.new.depot).files) files (c.in_ok-tree.ensures.same.files ∙ is) c.in-Ok-read_assets.ensures.told in
     let (good, assets_are) = subst (λ rows. ReadsAssets files folder rows (Ok c.in-Ok-read_assets.assets)) (c.as_slice.ensures ∙ are.assets) read in
     inr (inr (tree ∙ tree-good files folder tv none ∙ file-good files folder (file_of tv) good ∙ ap Ok (project-parts files folder (file_of tv) c.in-Ok.parts c.in-Ok-read_assets.assets are assets_are)))))
 
 pub returns-in-Err-clause-told : goal.returns-in-Err-clause-told
 returns-in-Err-clause-told g c =
     let tv = table_view c.in_ok-tree.tree in
-    if-some (g.D.Depot.files c.args.depot.now) _ (λ files is. (
-    let tree = if-some-at _ (g.D.Depot.files c.args.depot.now) files is c.in_ok-tree.ensures.told in
+    if-some ((g.D.Depot.now c.args.depot.now).files) _ (λ files is. (
+    let tree = if-some-at _ ((g.D.Depot.now c.args.depot.now).files) files is c.in_ok-tree.ensures.told in
     elim c.in-Err.ensures.err [
       | inl memory ↦ inl (ap Err memory)
       | inr faulty ↦ inr (inr (tree ∙ tree-faulty files c.args.folder.now tv c.in-Err.fault faulty))
@@ -42,6 +42,7 @@ returns-in-Err-clause-cause g c = record {
     | inl memory ↦ absurd (cc (memory, same))
     | inr faulty ↦ absurd (tree_never (table_view c.in_ok-tree.tree) (faulty ∙ ap Some same))
   ]);
+  kept = λ _. c.in_ok-tree.ensures.cause.kept (λ is. cc is);
 }
 
 pub returns-in-Err-read_assets-clause-told : goal.returns-in-Err-read_assets-clause-told
@@ -49,9 +50,9 @@ returns-in-Err-read_assets-clause-told g c =
     let tv = table_view c.in_ok-tree.tree in
     let folder = c.args.folder.now in
     let (none, are) = c.in-Ok.ensures.ok in
-    if-some (g.D.Depot.files c.args.depot.now) _ (λ files is. (
-    let tree = if-some-at _ (g.D.Depot.files c.args.depot.now) files is c.in_ok-tree.ensures.told in
-    let read = if-some-at _ (g.D.Depot.files c.read_tree.new.depot) files (c.in_ok-tree.ensures.same ∙ is) c.in-Err-read_assets.ensures.told in
+    if-some ((g.D.Depot.now c.args.depot.now).files) _ (λ files is. (
+    let tree = if-some-at _ ((g.D.Depot.now c.args.depot.now).files) files is c.in_ok-tree.ensures.told in
+    let read = if-some-at _ ((g.D.Depot.now c.read_tree.new.depot).files) files (c.in_ok-tree.ensures.same.files ∙ is) c.in-Err-read_assets.ensures.told in
     elim (subst (λ rows. ReadsAssets files folder rows (Err c.in-Err-read_assets.fault)) (c.as_slice.ensures ∙ are.assets) read) [
       | inl memory ↦ inl (ap Err memory)
       | inr (inl depot) ↦ inr (inl (ap Err depot))

@@ -1,0 +1,5 @@
+pub mod Chain
+pub mod Folder
+pub mod Gives
+pub mod Memory
+pub mod MemoryRules

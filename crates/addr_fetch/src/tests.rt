@@ -1,0 +1,60 @@
+// What no clause says: that each call can succeed, and what is read below a real folder.
+use crate::{Collected, Fetch, Fetched, FolderFetch, Gate, MemFetch, OpenGate, Poured};
+use addr_base::{BundleNo, Items, MemFile, Text};
+use std::alloc::Global;
+use std::fs;
+use std::test::Fail;
+
+fn one_file(alloc: Global, name: &str, bytes: &[u8]) -> Result<Vec<MemFile>, Fail> {
+    let mut files = Vec::new(alloc);
+    files.push(MemFile {
+        name: Text::copy_of(alloc, name)?,
+        bytes: Items::copy_of(alloc, bytes)?,
+    })?;
+    Ok(files)
+}
+
+#[test]
+fn pours_whole_files_in_pieces(rt: HostRuntime) -> Result<(), Fail> {
+    let files = one_file(rt.alloc(), "local/a", b"12345")?;
+    let mut fetch = MemFetch::new(files, Vec::from_slice(rt.alloc(), &[4])?);
+    for (piece, limit, want) in [
+        (1, 5, Poured::Whole(5)),
+        (2, 9, Poured::Whole(5)),
+        (7, 4, Poured::TooLong(5)),
+        (7, 5, Poured::Fault(1)),
+    ] {
+        fetch.set_piece(piece);
+        let mut into = Collected::new(rt.alloc());
+        let poured = fetch.fetch_to(rt.alloc(), "local/a", limit, &mut into);
+        assert_eq!(rt; poured, want);
+        if let Poured::Whole(_) = poured {
+            assert_eq!(rt; into.into_items().as_slice(), b"12345".as_slice());
+        }
+    }
+    assert!(rt; matches!(fetch.fetch(rt.alloc(), "local/b", 5), Fetched::Missing));
+    OpenGate.before(BundleNo(0));
+    OpenGate.after(BundleNo(0));
+    Ok(())
+}
+
+#[test]
+fn opens_files_below_its_folder_alone(rt: HostRuntime) -> Result<(), Fail> {
+    assert!(rt; fs::create_dir_all(&rt, "fetch_test/local/folder").is_ok());
+    assert!(rt; fs::write(&rt, "fetch_test/local/a", b"123").is_ok());
+    let mut fetch = FolderFetch::new(&rt, Text::copy_of(rt.alloc(), "fetch_test")?);
+    for (id, limit, want) in [
+        ("local/a", 3, Poured::Whole(3)),
+        ("local/a", 2, Poured::TooLong(3)),
+        ("local/b", 3, Poured::Missing),
+        ("local/../local/a", 3, Poured::Missing),
+        ("/fetch_test/local/a", 3, Poured::Missing),
+        ("http://h/local/a", 3, Poured::Missing),
+        ("local/folder", 1 << 20, Poured::Fault(1)),
+    ] {
+        let mut into = Collected::new(rt.alloc());
+        assert_eq!(rt; fetch.fetch_to(rt.alloc(), id, limit, &mut into), want);
+    }
+    assert!(rt; fs::remove_dir_all(&rt, "fetch_test").is_ok());
+    Ok(())
+}
