@@ -13,7 +13,7 @@ use Rattle.addr_history.specs.Counts.{is_closed}
 use Rattle.addr_history.specs.Answers.{load_reply}
 use Rattle.addr_history.proofs.Ranges.{Sound}
 use Rattle.addr_core.proofs.Preparing.{reply_closed}
-use Rattle.addr_queue.proofs.Members.{few_below}
+use Rattle.addr_history.proofs.Members.{few_below}
 use Rattle.addr_history.proofs.QueueSteps.{needs_once}
 
 pub needs_within : (rows : Rows) → Sound rows → (ask : Ask) → are_bundles (length rows.bundles) (needs_of rows ask) ≡ true

@@ -1,10 +1,9 @@
 -- The journal and the images beside it, one event on.
-use Rattle.std.proofs.Common.{◌≡◌, inl, inr, ℕ, ◌+◌, ◌≤◌, ◌<◌, ◌^◌, zero, suc, IsTrue, Bool, true, false, ◌||◌, ◌&&◌, cond, ltb, List, [], ◌∷◌, ◌++◌, length, map, filter, set, Option, Some, None, is_some, slice_get, IfSome, replicate, Ok, Vec, vec_len, vec_capacity, refl, sym, ◌∙◌, ap, subst, arith, length-append, if◌then◌else◌}
+use Rattle.std.proofs.Common.{◌≡◌, inl, inr, ℕ, ◌+◌, ◌≤◌, ◌<◌, ◌^◌, zero, suc, IsTrue, Bool, true, false, ◌||◌, ◌&&◌, ltb, List, [], ◌∷◌, ◌++◌, length, map, set, Option, Some, None, is_some, slice_get, IfSome, replicate, Ok, Vec, vec_len, vec_capacity, refl, sym, ◌∙◌, ap, subst, arith, length-append, if◌then◌else◌}
 use Rattle.std.proofs.lemmas.Bool.{false≢true, and_parts, cases_eq, cases_Bool, eq-eqb, ne_eqb, lt-ltb}
-use Rattle.std.proofs.lemmas.List.{append-nil, length-map, map-append}
-use Rattle.std.proofs.lemmas.List.Elements.{filter-append}
+use Rattle.std.proofs.lemmas.List.{length-map}
 use Rattle.std.proofs.lemmas.List.FromFn.{length-range_with_len}
-use Rattle.std.proofs.lemmas.List.Sums.{count_by-le-length, length-filter}
+use Rattle.std.proofs.lemmas.List.Sums.{count_by-le-length}
 use Rattle.std.specs.List.{range_with_len, list_all}
 use Rattle.std.specs.declared.alloc.Global.{Global}
 use Rattle.addr_base.specs.declared.ids.BundleNo.{BundleNo}
@@ -14,7 +13,7 @@ use Rattle.addr_locate.specs.Rows.{Rows, has_sound_deps}
 use Rattle.addr_history.specs.declared.ask.Ask.{Ask}
 use Rattle.addr_history.specs.declared.event.Event.{Event}
 use Rattle.addr_history.specs.declared.event.Event.TheVariants.{Load, Release, Take, Done, Fail, Close}
-use Rattle.addr_history.specs.Events.{is_load, is_done_of, needs_of, needs_of_event}
+use Rattle.addr_history.specs.Events.{is_load, is_done_of}
 use Rattle.addr_history.specs.Counts.{count_of, loads_of, is_unreleased}
 use Rattle.addr_history.specs.Places.{is_resident, is_fetched_by, bundles_of}
 use Rattle.addr_history.specs.Answers.{load_reply, load_adds, release_adds, done_adds}

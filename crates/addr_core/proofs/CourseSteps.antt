@@ -1,6 +1,6 @@
 -- What each event does to the courses of operations, and to the lists of those that wait.
 use Rattle.std.proofs.Common.{◌≡◌, ◌⊎◌, inl, inr, ℕ, ◌+◌, ◌-◌, ◌≤◌, ◌<◌, zero, suc, Bool, true, false, ◌&&◌, ◌||◌, not, cond, eqb, List, [], ◌∷◌, ◌++◌, length, Option, Some, None, is_some, slice_get, set, refl, sym, ◌∙◌, ap, arith, if◌then◌else◌}
-use Rattle.std.proofs.lemmas.Bool.{false≢true, or_left, eq-eqb, ne_eqb, cases_eq, cases_lt, cases_Bool}
+use Rattle.std.proofs.lemmas.Bool.{false≢true, eq-eqb, ne_eqb, cases_eq, cases_lt, cases_Bool}
 use Rattle.std.proofs.lemmas.List.{length-append}
 use Rattle.std.specs.List.{list_any, list_all, count_by}
 use Rattle.std.specs.Option.{option_or}
@@ -13,15 +13,15 @@ use Rattle.addr_history.specs.declared.ask.Ask.{Ask}
 use Rattle.addr_history.specs.declared.answers.OpStatus.{OpStatus}
 use Rattle.addr_history.specs.declared.answers.OpStatus.TheVariants.{Pending, Ready, Failed}
 use Rattle.addr_history.specs.declared.event.Event.{Event}
-use Rattle.addr_history.specs.declared.event.Event.TheVariants.{Load, Release, Take, Done, Fail, Close}
-use Rattle.addr_history.specs.Events.{is_in, is_load, is_load_of, is_release_of, is_done_of, needs_of}
+use Rattle.addr_history.specs.declared.event.Event.TheVariants.{Load, Release, Done, Fail}
+use Rattle.addr_history.specs.Events.{is_in, is_load, is_release_of, is_done_of, needs_of}
 use Rattle.addr_history.specs.Counts.{has_release, is_unreleased, count_of, needs_of_op, loads_of}
 use Rattle.addr_history.specs.Places.{is_resident}
 use Rattle.addr_history.specs.Status.{first_failure, status_of}
 use Rattle.addr_history.specs.Legal.{IsAnswer, Legal}
-use Rattle.addr_history.proofs.Points.{list_any_push, and-true, or-false}
+use Rattle.addr_history.proofs.Points.{and-true, or-false}
 use Rattle.addr_history.proofs.Ranges.{fetched_by_some}
-use Rattle.addr_history.proofs.Legality.{load_facts, fail_facts, by_events, extend, prefix, has_release_push, unreleased_parts, load_below, no_load_past, no_release_past, loads_push}
+use Rattle.addr_history.proofs.Legality.{load_facts, fail_facts, extend, prefix, has_release_push, unreleased_parts, load_below, no_load_past, no_release_past, loads_push}
 use Rattle.addr_history.proofs.Counting.{one_if, count-cons, count_push}
 use Rattle.addr_history.proofs.CountSteps.{below_loaded, same_resident}
 use Rattle.addr_core.specs.within.Changes.{change, change_each, times}

@@ -1,8 +1,6 @@
 -- Lists of images, one place a bundle, as a test says which of them are kept.
-use Rattle.std.proofs.Common.{◌≡◌, ◌⊎◌, inl, inr, ℕ, ◌+◌, ◌≤◌, ◌<◌, zero, suc, Bool, true, false, ◌&&◌, ◌||◌, ltb, List, [], ◌∷◌, ◌++◌, length, map, set, take, drop, get_or, Option, Some, None, is_some, slice_get, refl, sym, ◌∙◌, ap, subst, append_assoc, arith, if◌then◌else◌, length-take}
-use Rattle.std.proofs.lemmas.Bool.{false≢true, and_parts, or_cases, ltb-true, lt-ltb}
-use Rattle.std.proofs.lemmas.List.{take_more, drop_more, set_at, get_or_at, length-map}
-use Rattle.std.proofs.lemmas.List.FromFn.{length-enumerate_from}
+use Rattle.std.proofs.Common.{◌≡◌, ◌⊎◌, inl, inr, ℕ, ◌+◌, ◌≤◌, zero, suc, Bool, true, false, List, [], ◌∷◌, map, set, Option, Some, None, is_some, slice_get, refl, sym, ◌∙◌, ap, subst, arith, if◌then◌else◌}
+use Rattle.std.proofs.lemmas.Bool.{false≢true}
 use Rattle.std.specs.List.{enumerate_from}
 use Rattle.addr_base.specs.declared.ids.BundleNo.{BundleNo}
 use Rattle.addr_history.proofs.Owed.{numbers}

@@ -5,10 +5,10 @@ pub mod Changing
 pub mod Clearing
 pub mod CourseSteps
 pub mod Fresh
+pub mod HeldImages
 pub mod Holding
 pub mod Keeping
 pub mod Leaving
-pub mod LettingGo
 pub mod Machines
 pub mod NeedsSteps
 pub mod Nows

@@ -15,7 +15,7 @@ use Rattle.addr_history.proofs.Legality.{extend}
 use Rattle.addr_history.proofs.Ranges.{Sound, take_facts, fetched_below, fetched_by_some}
 use Rattle.addr_history.proofs.Owed.{within_limit, open_release}
 use Rattle.std.proofs.lemmas.Bool.{ltb-false, cases_Bool}
-use Rattle.addr_core.specs.within.Kept.{Known, AreNeeds, IsJournal, HasRooms}
+use Rattle.addr_core.specs.within.Kept.{Known, IsJournal, HasRooms}
 use Rattle.addr_core.proofs.Advance.{journal_record}
 use Rattle.addr_queue.specs.Queue.{Ordered, is_among}
 use Rattle.addr_core.specs.declared.slots.Slot.{Slot}

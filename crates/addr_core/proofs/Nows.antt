@@ -8,7 +8,7 @@ use Rattle.addr_history.specs.Counts.{is_closed}
 use Rattle.addr_history.specs.Places.{is_resident, is_fetched, is_absent}
 use Rattle.addr_history.specs.Answers.{reserved}
 use Rattle.addr_history.proofs.Owed.{within_limit}
-use Rattle.addr_queue.proofs.Members.{below_at}
+use Rattle.addr_history.proofs.Members.{below_at}
 use Rattle.addr_core.specs.declared.slots.Slot.{Slot}
 use Rattle.addr_core.specs.within.Kept.{AreSlots, IsSlot, IsNow}
 use Rattle.addr_core.specs.within.Slots.{passes_from, passes, is_out, is_missing}

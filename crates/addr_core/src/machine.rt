@@ -9,7 +9,7 @@ ghost use Rattle.addr_history.specs.Events.{needs_of};
 ghost use Rattle.addr_history.specs.Legal.{Legal, IsAnswer};
 ghost use Rattle.addr_history.specs.Places.{is_fetched_by, queue};
 ghost use Rattle.addr_history.specs.Counts.{count_of, is_closed, is_unreleased, loads_of};
-ghost use Rattle.addr_core.specs.Machine.{Machine, fresh, grown, with_kept, Loads, HasImages, ImagesFit};
+ghost use Rattle.addr_core.specs.Machine.{Machine, fresh, grown, with_kept, Loads, HasImages, IdleHaveNone, ImagesFit};
 
 use crate::courses::{Course, course_at, fail_each, give_back, take_needs, wake_each};
 use crate::images::{clear_each, put};
@@ -370,6 +370,7 @@ impl<I: Image + Drop> Core<I> {
         ensures history { result.now ≡ self.now.history }
         ensures legal { Legal self.now.rows self.now.limit self.now.history }
         ensures held { HasImages self.now }
+        ensures idle { IdleHaveNone self.now }
         ensures fitting { ImagesFit I.fits self.now }
     {
         self.events.as_slice()

@@ -1,5 +1,5 @@
 -- What each event does to the count of a bundle, and to who is resident; which numbers operations have.
-use Rattle.std.proofs.Common.{◌≡◌, inl, inr, ℕ, ◌+◌, ◌≤◌, ◌<◌, Bool, true, false, ◌&&◌, ◌||◌, cond, ltb, List, [], ◌∷◌, ◌++◌, length, Option, Some, refl, sym, ◌∙◌, ap, arith, find}
+use Rattle.std.proofs.Common.{◌≡◌, inl, inr, ℕ, ◌+◌, ◌≤◌, ◌<◌, Bool, true, false, ◌&&◌, ◌||◌, cond, ltb, List, [], ◌∷◌, ◌++◌, length, Option, refl, sym, ◌∙◌, ap, arith, find}
 use Rattle.std.proofs.lemmas.Bool.{false≢true, and_parts, or_cases, or_left, eq-eqb, ltb-true, lt-ltb, cases_lt}
 use Rattle.std.proofs.lemmas.List.Sums.{count_by-le-length}
 use Rattle.std.specs.List.{list_any}
@@ -11,7 +11,7 @@ use Rattle.addr_history.specs.declared.ask.Ask.{Ask}
 use Rattle.addr_history.specs.declared.event.Event.{Event}
 use Rattle.addr_history.specs.declared.event.Event.TheVariants.{Load, Release, Take, Done, Fail, Close}
 use Rattle.addr_history.specs.Events.{is_in, is_load, is_load_of, is_release_of, is_done_of, needs_of, needs_of_event}
-use Rattle.addr_history.specs.Counts.{is_open_load, is_unreleased, loads_of, open_count, count_of, needs_of_op}
+use Rattle.addr_history.specs.Counts.{is_open_load, is_unreleased, loads_of, count_of, needs_of_op}
 use Rattle.addr_history.specs.Places.{is_resident}
 use Rattle.addr_history.specs.Legal.{IsAnswer, Legal}
 use Rattle.addr_history.proofs.Points.{list_any_push}

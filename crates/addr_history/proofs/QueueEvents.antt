@@ -1,6 +1,6 @@
 -- The queue after each event; its length, and how many bundles are fetched.
-use Rattle.std.proofs.Common.{◌≡◌, inl, inr, ℕ, ◌+◌, ◌≤◌, ◌<◌, Bool, true, false, ◌&&◌, ◌||◌, not, eqb, ltb, List, [], ◌∷◌, ◌++◌, length, filter, refl, sym, ◌∙◌, ap, arith}
-use Rattle.std.proofs.lemmas.Bool.{false≢true, and_parts, eq-eqb, ne_eqb, ltb-true, lt-ltb, not-true, cases_eq}
+use Rattle.std.proofs.Common.{◌≡◌, inl, inr, ℕ, ◌+◌, ◌<◌, Bool, true, false, ◌&&◌, ◌||◌, not, eqb, ltb, List, [], ◌∷◌, ◌++◌, length, filter, refl, sym, ◌∙◌, ap, arith}
+use Rattle.std.proofs.lemmas.Bool.{false≢true, eq-eqb, ne_eqb, ltb-true, lt-ltb, cases_eq}
 use Rattle.std.proofs.lemmas.List.{append-nil}
 use Rattle.std.specs.List.{count_by}
 use Rattle.addr_base.specs.declared.ids.BundleNo.{BundleNo}
@@ -17,9 +17,10 @@ use Rattle.addr_history.specs.Legal.{IsAnswer, Legal}
 use Rattle.addr_history.proofs.Points.{and-true, or-false}
 use Rattle.addr_history.proofs.Steps.{counts_on, fetched_push}
 use Rattle.addr_history.proofs.Legality.{prefix}
-use Rattle.addr_history.proofs.Counting.{one_if, count-cons, count_same, count_sum}
+use Rattle.addr_history.proofs.Counting.{one_if, count_same, count_sum}
 use Rattle.addr_history.proofs.Ranges.{Sound, same_bundle, queued_below}
-use Rattle.addr_history.proofs.Owed.{numbers, count_ge2, count_in_range, count_one, count_chosen}
+use Rattle.addr_history.proofs.Members.{members}
+use Rattle.addr_history.proofs.Owed.{numbers, count_in_range, count_one}
 use Rattle.addr_history.proofs.QueueSteps.{filter_all, filter_within, in_queue, stays, joins, queue_push, queued_counted}
 use Rattle.addr_history.proofs.CountSteps.{IsCalm, count_calm, count_load}
 
@@ -106,29 +107,6 @@ module _ (rows : Rows) (limit : ℕ) where
       let once = queue_once h in
       count_same (is_queued rows h) (λ c. is_in c (queue rows h)) (λ c. sym (in_queue rows h c)) (bundles_of rows)
       ∙ members (length rows.bundles) (queue rows h) all once
-    where
-      at_least : (n : ℕ) (bs : List BundleNo) → are_bundles n bs ≡ true → no_repeats bs ≡ true → length bs ≤ count_by (λ c. is_in c bs) (numbers 0 n)
-      at_least n [] all once = omega arith
-      at_least n (b ∷ bs) all once =
-          let below = and_parts (ltb b.0 n) (are_bundles n bs) all in
-          let apart = and_parts (not (is_in b bs)) (no_repeats bs) once in
-          omega (arith, at_least n bs below.1 apart.1, count_in_range b n 0 (omega arith) (omega (arith, ltb-true b.0 n below.0)), count_ge2 (λ c. eqb b.0 c.0) (λ c. is_in c bs) (λ c. is_in c (b ∷ bs)) (one (not-true (is_in b bs) apart.0)) (numbers 0 n))
-        where
-          by : (s t : Bool) → (s ≡ true → t ≡ false) → one_if s + one_if t ≤ one_if (s || t)
-          by true true apart = absurd (false≢true (sym (apart refl)))
-          by true false apart = omega arith
-          by false t apart = omega arith
-
-          one : is_in b bs ≡ false → (c : BundleNo) → one_if (eqb b.0 c.0) + one_if (is_in c bs) ≤ one_if (is_in c (b ∷ bs))
-          one apart c = by (eqb b.0 c.0) (is_in c bs) (λ same. ap (λ d. is_in d bs) (sym (same_bundle b c same)) ∙ apart)
-
-      all_count : (bs : List BundleNo) → count_by (λ c. true) bs ≡ length bs
-      all_count [] = refl
-      all_count (b ∷ bs) = omega (arith, all_count bs, count-cons (λ (c : BundleNo). true) b bs)
-
-      members : (n : ℕ) (bs : List BundleNo) → are_bundles n bs ≡ true → no_repeats bs ≡ true → count_by (λ c. is_in c bs) (numbers 0 n) ≡ length bs
-      members n bs all once =
-          omega (arith, at_least n bs all once, count_chosen (λ c. true) bs n 0, all_count bs, count_same (λ c. is_in c bs && true) (λ c. is_in c bs) (λ c. and-true (is_in c bs)) (numbers 0 n))
 
   one_bundle : (b : BundleNo) → b.0 < length rows.bundles → count_by (λ c. eqb b.0 c.0) (bundles_of rows) ≡ 1
   one_bundle b lt =

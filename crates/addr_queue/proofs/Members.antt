@@ -1,16 +1,11 @@
 -- Lists of different bundles: cut where one stands, without it, and no longer than there are numbers; and their places in a ring.
-use Rattle.std.proofs.Common.{◌≡◌, inl, inr, ℕ, ◌+◌, ◌≤◌, ◌<◌, Bool, true, false, ◌&&◌, ◌||◌, not, cond, eqb, ltb, List, [], ◌∷◌, ◌++◌, length, filter, refl, sym, ◌∙◌, ap, subst, arith, length-append}
-use Rattle.std.proofs.lemmas.Bool.{false≢true, and_parts, or_cases, eqb-true, eq-eqb, ne_eqb, ltb-true, lt-ltb, not-true, cases_eq}
-use Rattle.std.proofs.lemmas.List.{length-map}
-use Rattle.std.proofs.lemmas.List.FromFn.{length-range_with_len}
+use Rattle.std.proofs.Common.{◌≡◌, inl, inr, ℕ, ◌+◌, ◌<◌, Bool, true, false, ◌&&◌, ◌||◌, not, cond, eqb, ltb, List, [], ◌∷◌, ◌++◌, length, filter, refl, sym, ◌∙◌, ap, subst, arith, length-append}
+use Rattle.std.proofs.lemmas.Bool.{false≢true, and_parts, or_cases, eqb-true, eq-eqb, ne_eqb, ltb-true, not-true, cases_eq}
 use Rattle.std.proofs.lemmas.List.Folds.{list_any-append}
-use Rattle.std.proofs.lemmas.List.Sums.{count_by-le-length}
-use Rattle.std.specs.List.{list_any, count_by, range_with_len}
+use Rattle.std.specs.List.{list_any}
 use Rattle.addr_base.specs.declared.ids.BundleNo.{BundleNo}
 use Rattle.addr_locate.specs.Rows.{no_repeats, are_bundles}
-use Rattle.addr_history.proofs.Counting.{one_if}
 use Rattle.addr_history.proofs.Ranges.{same_bundle}
-use Rattle.addr_history.proofs.Owed.{numbers, count_ge2, count_in_range}
 
 -- whether a number is that of one of some bundles
 abbrev pub has : ℕ → List BundleNo → Bool
@@ -109,33 +104,6 @@ without b (c ∷ l) r once =
     let other : eqb c.0 b.0 ≡ false = ne_eqb c.0 b.0 (λ same. other_than c.0 (l ++ b ∷ r) b.0 none there (sym same)) in
     ap (λ t. cond (not t) (c ∷ filter (λ d. not (eqb d.0 b.0)) (l ++ b ∷ r)) (filter (λ d. not (eqb d.0 b.0)) (l ++ b ∷ r))) other ∙ ap (λ (t : List BundleNo). c ∷ t) (without b l r parts.1)
 
--- different bundles below a bound are no more than the bound
-count_members : (n : ℕ) (bs : List BundleNo) → are_bundles n bs ≡ true → no_repeats bs ≡ true → length bs ≤ count_by (λ c. has c.0 bs) (numbers 0 n)
-count_members n [] all once = omega arith
-count_members n (b ∷ bs) all once =
-    let below = and_parts (ltb b.0 n) (are_bundles n bs) all in
-    let apart = and_parts (not (has b.0 bs)) (no_repeats bs) once in
-    omega (arith, count_members n bs below.1 apart.1, count_in_range b n 0 (omega arith) (omega (arith, ltb-true b.0 n below.0)), count_ge2 (λ c. eqb b.0 c.0) (λ c. has c.0 bs) (λ c. has c.0 (b ∷ bs)) (at (not-true (has b.0 bs) apart.0)) (numbers 0 n))
-  where
-    by : (s t : Bool) → (s ≡ true → t ≡ false) → one_if s + one_if t ≤ one_if (s || t)
-    by true true apart = absurd (false≢true (sym (apart refl)))
-    by true false apart = omega arith
-    by false t apart = omega arith
-
-    at : has b.0 bs ≡ false → (c : BundleNo) → one_if (eqb b.0 c.0) + one_if (has c.0 bs) ≤ one_if (has c.0 (b ∷ bs))
-    at apart c = by (eqb b.0 c.0) (has c.0 bs) (λ same. ap (λ d. has d.0 bs) (sym (same_bundle b c same)) ∙ apart)
-
-pub few_below : (n : ℕ) (bs : List BundleNo) → are_bundles n bs ≡ true → no_repeats bs ≡ true → length bs ≤ n
-few_below n bs all once =
-    omega (arith, count_members n bs all once, count_by-le-length (λ c. has c.0 bs) (numbers 0 n), length-map (range_with_len 0 n) (λ k. let r : BundleNo = record { 0 = k } in r), length-range_with_len 0 n)
-
--- one more than some that are different and below is no more than the bound either
-pub near_all : (n : ℕ) (bs : List BundleNo) (b : BundleNo) → are_bundles n bs ≡ true → no_repeats bs ≡ true → b.0 < n → has b.0 bs ≡ false → length bs + 1 ≤ n
-near_all n bs b all once lt new =
-    let below : are_bundles n (b ∷ bs) ≡ true = ap (λ t. t && are_bundles n bs) (lt-ltb b.0 n lt) ∙ all in
-    let apart : no_repeats (b ∷ bs) ≡ true = ap (λ t. not t && no_repeats bs) new ∙ once in
-    omega (arith, few_below n (b ∷ bs) below apart)
-
 pub one_less : (b : BundleNo) (bs : List BundleNo) → no_repeats bs ≡ true → has b.0 bs ≡ true → length (filter (λ c. not (eqb c.0 b.0)) bs) + 1 ≡ length bs
 one_less b bs once is =
     let place = place_in b bs is in
@@ -144,15 +112,6 @@ one_less b bs once is =
     let cut : no_repeats (l ++ b ∷ r) ≡ true = subst (λ (t : List BundleNo). no_repeats t ≡ true) place.1.1 once in
     let left : filter (λ (c : BundleNo). not (eqb c.0 b.0)) bs ≡ l ++ r = ap (filter (λ (c : BundleNo). not (eqb c.0 b.0))) place.1.1 ∙ without b l r cut in
     omega (arith, ap length left, ap length place.1.1, length-append l r, length-append l (b ∷ r))
-
-pub below_at : (n x : ℕ) (bs : List BundleNo) → are_bundles n bs ≡ true → has x bs ≡ true → x < n
-below_at n x [] all is = absurd (false≢true is)
-below_at n x (c ∷ bs) all is =
-    let parts = and_parts (ltb c.0 n) (are_bundles n bs) all in
-    elim (or_cases (eqb c.0 x) (has x bs) is) [
-      | inl here ↦ subst (λ m. m < n) (eqb-true c.0 x here) (ltb-true c.0 n parts.0)
-      | inr later ↦ below_at n x bs parts.1 later
-    ]
 
 pub place_below : (n x : ℕ) (bs : List BundleNo) → are_bundles n bs ≡ true → stands x bs ≡ true → x < n + 1
 place_below n x [] all is = absurd (false≢true is)

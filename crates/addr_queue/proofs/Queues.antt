@@ -7,7 +7,8 @@ use Rattle.std.specs.Vec.{with_item}
 use Rattle.addr_base.specs.declared.ids.BundleNo.{BundleNo}
 use Rattle.addr_queue.specs.Queue.{is_among}
 use Rattle.addr_queue.specs.within.Ring.{ordered, IsRing, IsQueue}
-use Rattle.addr_queue.proofs.Members.{below_at, near_all, one_less}
+use Rattle.addr_history.proofs.Members.{below_at, near_all}
+use Rattle.addr_queue.proofs.Members.{one_less}
 use Rattle.addr_queue.proofs.Rings.{ring_queue, ring_push, ring_remove, ring_none, ring_first, near_end, near_place}
 
 module _ (room len : ℕ) (next prev : Vec ℕ Global) (kept : IsQueue room len next prev) where

@@ -7,7 +7,8 @@ use Rattle.std.specs.List.{list_all}
 use Rattle.addr_base.specs.declared.ids.BundleNo.{BundleNo}
 use Rattle.addr_locate.specs.Rows.{no_repeats, are_bundles}
 use Rattle.addr_queue.specs.within.Ring.{walked, ordered, Linked, IsRing}
-use Rattle.addr_queue.proofs.Members.{has, stands, stands_at, stands_nowhere, stands_head, stands_later, apart_two, once_cut, place_in, without, few_below, place_below}
+use Rattle.addr_queue.proofs.Members.{has, stands, stands_at, stands_nowhere, stands_head, stands_later, apart_two, once_cut, place_in, without, place_below}
+use Rattle.addr_history.proofs.Members.{few_below}
 
 -- the last of some places
 abbrev pub last_of : ℕ → List BundleNo → ℕ

@@ -1,5 +1,5 @@
 -- Where one bundle stands, as the machine keeps it, and what an event does to it; the queue and images that follow.
-use Rattle.std.specs.Prelude.{ℕ, ◌==◌, ◌+◌, ◌-◌, ◌^◌, min, Bool, true, false, ◌&&◌, ◌||◌, not, nat_lt, nat_le, List, [], ◌∷◌, ◌++◌, filter, slice_get, Option, Some, None, is_some, if◌then◌else◌}
+use Rattle.std.specs.Prelude.{ℕ, ◌==◌, ◌+◌, ◌-◌, ◌^◌, min, Bool, false, ◌&&◌, ◌||◌, not, nat_lt, nat_le, List, [], ◌∷◌, ◌++◌, filter, slice_get, Option, Some, None, is_some, if◌then◌else◌}
 use Rattle.addr_base.specs.declared.ids.BundleNo.{BundleNo}
 use Rattle.addr_core.specs.declared.slots.Slot.{Slot}
 

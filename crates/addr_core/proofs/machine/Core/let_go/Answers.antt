@@ -24,7 +24,7 @@ use Rattle.addr_core.specs.within.Slots.{left_each}
 use Rattle.addr_core.specs.within.Changes.{cleared_each}
 use Rattle.addr_history.proofs.StatusSteps.{op_needs_once}
 use Rattle.addr_core.proofs.Clearing.{released_images}
-use Rattle.addr_core.proofs.LettingGo.{images_held}
+use Rattle.addr_core.proofs.HeldImages.{images_held}
 use Rattle.addr_core.proofs.machine.Core.let_go.Goals as goal
 
 pub push_within-requires : goal.push_within-requires
