@@ -1,10 +1,9 @@
--- What a core keeps, one event on.
-use Rattle.std.proofs.Common.{◌≡◌, inl, inr, ℕ, ◌+◌, ◌≤◌, ◌<◌, ◌^◌, zero, suc, IsTrue, Bool, true, false, ◌||◌, ◌&&◌, cond, ltb, List, [], ◌∷◌, ◌++◌, length, map, filter, set, Option, Some, None, is_some, slice_get, IfSome, replicate, Ok, Vec, vec_len, vec_capacity, refl, sym, ◌∙◌, ap, subst, arith, length-append, if◌then◌else◌}
+-- The journal and the images beside it, one event on.
+use Rattle.std.proofs.Common.{◌≡◌, inl, inr, ℕ, ◌+◌, ◌≤◌, ◌<◌, ◌^◌, zero, suc, IsTrue, Bool, true, false, ◌||◌, ◌&&◌, ltb, List, [], ◌∷◌, ◌++◌, length, map, set, Option, Some, None, is_some, slice_get, IfSome, replicate, Ok, Vec, vec_len, vec_capacity, refl, sym, ◌∙◌, ap, subst, arith, length-append, if◌then◌else◌}
 use Rattle.std.proofs.lemmas.Bool.{false≢true, and_parts, cases_eq, cases_Bool, eq-eqb, ne_eqb, lt-ltb}
-use Rattle.std.proofs.lemmas.List.{append-nil, length-map, map-append}
-use Rattle.std.proofs.lemmas.List.Elements.{filter-append}
+use Rattle.std.proofs.lemmas.List.{length-map}
 use Rattle.std.proofs.lemmas.List.FromFn.{length-range_with_len}
-use Rattle.std.proofs.lemmas.List.Sums.{count_by-le-length, length-filter}
+use Rattle.std.proofs.lemmas.List.Sums.{count_by-le-length}
 use Rattle.std.specs.List.{range_with_len, list_all}
 use Rattle.std.specs.declared.alloc.Global.{Global}
 use Rattle.addr_base.specs.declared.ids.BundleNo.{BundleNo}
@@ -14,62 +13,34 @@ use Rattle.addr_locate.specs.Rows.{Rows, has_sound_deps}
 use Rattle.addr_history.specs.declared.ask.Ask.{Ask}
 use Rattle.addr_history.specs.declared.event.Event.{Event}
 use Rattle.addr_history.specs.declared.event.Event.TheVariants.{Load, Release, Take, Done, Fail, Close}
-use Rattle.addr_history.specs.Events.{is_load, is_done_of, needs_of, needs_of_event}
+use Rattle.addr_history.specs.Events.{is_load, is_done_of}
 use Rattle.addr_history.specs.Counts.{count_of, loads_of, is_unreleased}
 use Rattle.addr_history.specs.Places.{is_resident, is_fetched_by, bundles_of}
 use Rattle.addr_history.specs.Answers.{load_reply, load_adds, release_adds, done_adds}
 use Rattle.addr_history.specs.Legal.{IsAnswer, Legal}
-use Rattle.addr_core.specs.Machine.{Machine, images_left, HasImages, ImagesFit, IsCore}
-use Rattle.addr_core.specs.Walk.{IsQuiet, needs_of_loads, Known}
+use Rattle.addr_core.specs.Machine.{Machine, images_left, HasImages, ImagesFit}
+use Rattle.addr_core.specs.within.Kept.{IsQuiet, Known, IsJournal}
 use Rattle.addr_history.proofs.Steps.{counts_on, resident_push}
 use Rattle.addr_history.proofs.Legality.{extend, empty}
-use Rattle.addr_core.proofs.Walking.{count_step}
+use Rattle.addr_history.proofs.CountSteps.{none_resident, count_calm, stays_resident, was_resident, load_stays}
 use Rattle.addr_history.proofs.Ranges.{same_bundle}
 use Rattle.addr_history.proofs.Owed.{numbers, within_limit}
-use Rattle.addr_core.proofs.Keeping.{none_resident, left_all, held_left, held_set, fit_left, fit_set, count_kept, stays_resident, was_resident}
+use Rattle.addr_core.proofs.Keeping.{left_all, held_left, held_set, fit_left, fit_set}
 
 module _ (rows : Rows) (limit : ℕ) where
-  needs_same : (h : List Event) (e : Event) → is_load e ≡ false → needs_of_loads rows (h ++ e ∷ []) ≡ needs_of_loads rows h
-  unfolding needs_of_loads
-  needs_same h e other =
-      ap (map (needs_of_event rows)) (filter-append is_load h (e ∷ []) ∙ ap (λ t. filter is_load h ++ cond t (e ∷ []) []) other ∙ append-nil (filter is_load h))
-
-  needs_more : (h : List Event) (op : OpId) (caller : ℕ) (ask : Ask) → needs_of_loads rows (h ++ Load op caller ask ∷ []) ≡ needs_of_loads rows h ++ needs_of rows ask ∷ []
-  unfolding needs_of_loads
-  needs_more h op caller ask =
-      ap (map (needs_of_event rows)) (filter-append is_load h (Load op caller ask ∷ [])) ∙ map-append (needs_of_event rows) (filter is_load h) (Load op caller ask ∷ [])
-
-  pub loads_length : (h : List Event) (needs : List (List BundleNo)) → needs ≡ needs_of_loads rows h → length needs ≡ loads_of h
-  unfolding needs_of_loads loads_of
-  loads_length h needs is = ap length is ∙ length-map (filter is_load h) (needs_of_event rows) ∙ length-filter is_load h
-
-  loads_le : (h : List Event) → loads_of h ≤ length h
+  pub loads_le : (h : List Event) → loads_of h ≤ length h
   unfolding loads_of
   loads_le h = count_by-le-length is_load h
 
-  pub needs_few : (h : List Event) (needs : List (List BundleNo)) → Known rows limit h needs → length needs ≤ length h
-  needs_few h needs known = omega (arith, loads_length h needs known.paired, loads_le h)
-
   -- there is room for an answer
-  pub room : (h : List Event) (needs : List (List BundleNo)) → Known rows limit h needs → (e : Event) → IsAnswer rows limit h e → length h + 1 ≤ limit
-  room h needs known e answer =
+  pub room : (h : List Event) → Known rows limit h → (e : Event) → IsAnswer rows limit h e → length h + 1 ≤ limit
+  room h known e answer =
       omega (arith, within_limit rows limit known.sound known.positive (h ++ e ∷ []) (extend rows limit h e known.legal answer), length-append h (e ∷ []))
 
-  pub known_push : (h : List Event) (needs : List (List BundleNo)) → Known rows limit h needs → (e : Event) → IsAnswer rows limit h e → is_load e ≡ false → Known rows limit (h ++ e ∷ []) needs
-  known_push h needs known e answer other = record {
+  pub known_push : (h : List Event) → Known rows limit h → (e : Event) → IsAnswer rows limit h e → Known rows limit (h ++ e ∷ [])
+  known_push h known e answer = record {
     legal = extend rows limit h e known.legal answer;
-    paired = known.paired ∙ sym (needs_same h e other);
-    short = omega (arith, room h needs known e answer, length-append h (e ∷ []), known.few);
-    sound = known.sound;
-    positive = known.positive;
-    few = known.few;
-  }
-
-  pub known_load : (h : List Event) (needs : List (List BundleNo)) → Known rows limit h needs → (op : OpId) (caller : ℕ) (ask : Ask) → IsAnswer rows limit h (Load op caller ask) → Known rows limit (h ++ Load op caller ask ∷ []) (needs ++ needs_of rows ask ∷ [])
-  known_load h needs known op caller ask answer = record {
-    legal = extend rows limit h (Load op caller ask) known.legal answer;
-    paired = ap (λ (l : List (List BundleNo)). l ++ needs_of rows ask ∷ []) known.paired ∙ sym (needs_more h op caller ask);
-    short = omega (arith, room h needs known (Load op caller ask) answer, length-append h (Load op caller ask ∷ []), known.few);
+    short = omega (arith, room h known e answer, length-append h (e ∷ []), known.few);
     sound = known.sound;
     positive = known.positive;
     few = known.few;
@@ -79,10 +50,10 @@ module _ (rows : Rows) (limit : ℕ) where
   pub quiet_stays : (h : List Event) → Legal rows limit h → (e : Event) → IsAnswer rows limit h e → IsQuiet rows h e → (b : BundleNo) → is_resident rows h b ≡ true → is_resident rows (h ++ e ∷ []) b ≡ true
   quiet_stays h legal (Load op c k) answer quiet = absurd quiet
   quiet_stays h legal (Release o c) answer quiet = absurd quiet
-  quiet_stays h legal (Take o c) answer quiet = stays_resident rows limit h (Take o c) legal (λ b. omega (arith, count_kept rows limit h (Take o c) b (extend rows limit h (Take o c) legal answer) (λ t n. refl)))
-  quiet_stays h legal (Done o c) answer quiet = stays_resident rows limit h (Done o c) legal (λ b. omega (arith, count_kept rows limit h (Done o c) b (extend rows limit h (Done o c) legal answer) (λ t n. refl)))
-  quiet_stays h legal (Fail o c k) answer quiet = stays_resident rows limit h (Fail o c k) legal (λ b. omega (arith, count_kept rows limit h (Fail o c k) b (extend rows limit h (Fail o c k) legal answer) (λ t n. refl)))
-  quiet_stays h legal Close answer quiet = stays_resident rows limit h Close legal (λ b. omega (arith, count_kept rows limit h Close b (extend rows limit h Close legal answer) (λ t n. refl)))
+  quiet_stays h legal (Take o c) answer quiet = stays_resident rows limit h (Take o c) legal (λ b. omega (arith, count_calm rows h (Take o c) b (refl, λ p. refl)))
+  quiet_stays h legal (Done o c) answer quiet = stays_resident rows limit h (Done o c) legal (λ b. omega (arith, count_calm rows h (Done o c) b (refl, λ p. refl)))
+  quiet_stays h legal (Fail o c k) answer quiet = stays_resident rows limit h (Fail o c k) legal (λ b. omega (arith, count_calm rows h (Fail o c k) b (refl, λ p. refl)))
+  quiet_stays h legal Close answer quiet = stays_resident rows limit h Close legal (λ b. omega (arith, count_calm rows h Close b (refl, λ p. refl)))
 
   pub quiet_was : (h : List Event) → Legal rows limit h → (e : Event) → IsAnswer rows limit h e → IsQuiet rows h e → (b : BundleNo) → is_resident rows (h ++ e ∷ []) b ≡ true → is_resident rows h b ≡ true
   quiet_was h legal (Load op c k) answer quiet = absurd quiet
@@ -91,17 +62,12 @@ module _ (rows : Rows) (limit : ℕ) where
   quiet_was h legal (Done o c) answer quiet = λ b is. elim (cases_Bool (is_done_of b (Done o c))) [
     | inl this ↦
         let same : o ≡ b = same_bundle o b this in
-        let none : count_of rows (h ++ Done o c ∷ []) b ≡ 0 = count_kept rows limit h (Done o c) b (extend rows limit h (Done o c) legal answer) (λ t n. refl) ∙ ap (count_of rows h) (sym same) ∙ quiet in
+        let none : count_of rows (h ++ Done o c ∷ []) b ≡ 0 = count_calm rows h (Done o c) b (refl, λ p. refl) ∙ ap (count_of rows h) (sym same) ∙ quiet in
         absurd (false≢true (sym (ap (ltb 0) none) ∙ (and_parts (is_resident rows h b || is_done_of b (Done o c)) (counts_on rows h (Done o c) b) (sym (resident_push rows h (Done o c) b) ∙ is)).1))
     | inr other ↦ was_resident rows limit h (Done o c) b other is
   ]
   quiet_was h legal (Fail o c k) answer quiet = λ b is. was_resident rows limit h (Fail o c k) b refl is
   quiet_was h legal Close answer quiet = λ b is. was_resident rows limit h Close b refl is
-
-  -- after a Load as many are resident, after a Release no others
-  pub load_stays : (h : List Event) → Legal rows limit h → (op : OpId) (caller : ℕ) (ask : Ask) → IsAnswer rows limit h (Load op caller ask) → (b : BundleNo) → is_resident rows h b ≡ true → is_resident rows (h ++ Load op caller ask ∷ []) b ≡ true
-  load_stays h legal op caller ask answer =
-      stays_resident rows limit h (Load op caller ask) legal (λ b. omega (arith, count_step rows limit h (Load op caller ask) [] b (extend rows limit h (Load op caller ask) legal answer)))
 
 if_some : {X : Type 0} (o : Option X) (P Q : X → Type 0) → ((x : X) → P x → Q x) → IfSome o P → IfSome o Q
 if_some None P Q implies is = is
@@ -167,7 +133,7 @@ module _ {I : Type 0} (fits : I → ℕ → Digest → Type 0) (rows : Rows) (li
       g = h ++ Done b worker ∷ []
 
       count : (c : BundleNo) → count_of rows g c ≡ count_of rows h c
-      count c = count_kept rows limit h (Done b worker) c (extend rows limit h (Done b worker) legal answer) (λ t n. refl)
+      count c = count_calm rows h (Done b worker) c (refl, λ p. refl)
 
       stays : (c : BundleNo) → is_resident rows h c ≡ true → is_resident rows g c ≡ true
       stays = stays_resident rows limit h (Done b worker) legal (λ c. omega (arith, count c))
@@ -193,51 +159,41 @@ module _ {I : Type 0} (fits : I → ℕ → Digest → Type 0) (rows : Rows) (li
 
   pub kept_images : (h : List Event) (images : List (Option I)) → Legal rows limit h → (b : BundleNo) (worker : ℕ) → IsAnswer rows limit h (Done b worker) → HasImages (machine h images) → images_left rows (h ++ Done b worker ∷ []) images ≡ images
   kept_images h images legal b worker answer held =
-      same_images h (h ++ Done b worker ∷ []) images held (stays_resident rows limit h (Done b worker) legal (λ c. omega (arith, count_kept rows limit h (Done b worker) c (extend rows limit h (Done b worker) legal answer) (λ t n. refl))))
+      same_images h (h ++ Done b worker ∷ []) images held (stays_resident rows limit h (Done b worker) legal (λ c. omega (arith, count_calm rows h (Done b worker) c (refl, λ p. refl))))
 
-  -- what a core keeps where the journal grew
-  pub core_push : (ev : Vec Event Global) (nd : Vec (List BundleNo) Global) (im : Vec (Option I) Global) → IsCore fits rows limit ev nd im → (e : Event) → IsAnswer rows limit ev.items e → is_load e ≡ false → (ev2 : Vec Event Global) → ev2.items ≡ ev.items ++ e ∷ [] → vec_len ev2 ≡ vec_len ev + 1 → vec_capacity ev ≤ vec_capacity ev2 → (im2 : Vec (Option I) Global) → HasImages (machine (ev.items ++ e ∷ []) im2.items) → ImagesFit fits (machine (ev.items ++ e ∷ []) im2.items) → IsCore fits rows limit ev2 nd im2
-  core_push ev nd im core e answer other ev2 items len cap im2 held fit = record {
-    known = subst (λ (l : List Event). Known rows limit l nd.items) (sym items) (known_push rows limit ev.items nd.items core.known e answer other);
-    few_bundles = core.few_bundles;
-    journal_length = omega (arith, len, core.journal_length, ap length items, length-append ev.items (e ∷ []));
-    needs_length = core.needs_length;
-    journal_room = omega (arith, core.journal_room, cap);
-    needs_room = core.needs_room;
+  -- where the journal grew
+  pub journal_push : (ev : Vec Event Global) (im : Vec (Option I) Global) → IsJournal fits rows limit ev im → (e : Event) → IsAnswer rows limit ev.items e → (ev2 : Vec Event Global) → ev2.items ≡ ev.items ++ e ∷ [] → vec_len ev2 ≡ vec_len ev + 1 → vec_capacity ev ≤ vec_capacity ev2 → (im2 : Vec (Option I) Global) → HasImages (machine (ev.items ++ e ∷ []) im2.items) → ImagesFit fits (machine (ev.items ++ e ∷ []) im2.items) → IsJournal fits rows limit ev2 im2
+  journal_push ev im journal e answer ev2 items len cap im2 held fit = record {
+    known = subst (Known rows limit) (sym items) (known_push rows limit ev.items journal.known e answer);
+    few_bundles = journal.few_bundles;
+    journal_length = omega (arith, len, journal.journal_length, ap length items, length-append ev.items (e ∷ []));
+    journal_room = omega (arith, journal.journal_room, cap);
     held = subst (λ (l : List Event). HasImages (machine l im2.items)) (sym items) held;
     fitting = subst (λ (l : List Event). ImagesFit fits (machine l im2.items)) (sym items) fit;
   }
 
-  pub core_room : (ev : Vec Event Global) (nd : Vec (List BundleNo) Global) (im : Vec (Option I) Global) → IsCore fits rows limit ev nd im → (e : Event) → IsAnswer rows limit ev.items e → vec_len ev < vec_capacity ev
-  core_room ev nd im core e answer = omega (arith, room rows limit ev.items nd.items core.known e answer, core.journal_length, core.journal_room)
+  pub journal_has_room : (ev : Vec Event Global) (im : Vec (Option I) Global) → IsJournal fits rows limit ev im → (e : Event) → IsAnswer rows limit ev.items e → vec_len ev < vec_capacity ev
+  journal_has_room ev im journal e answer = omega (arith, room rows limit ev.items journal.known e answer, journal.journal_length, journal.journal_room)
 
-  pub core_load : (ev : Vec Event Global) (nd : Vec (List BundleNo) Global) (im : Vec (Option I) Global) → IsCore fits rows limit ev nd im → (op : OpId) (caller : ℕ) (ask : Ask) → IsAnswer rows limit ev.items (Load op caller ask) → (ev2 : Vec Event Global) → ev2.items ≡ ev.items ++ Load op caller ask ∷ [] → vec_len ev2 ≡ vec_len ev + 1 → vec_capacity ev ≤ vec_capacity ev2 → (nd2 : Vec (List BundleNo) Global) → nd2.items ≡ nd.items ++ needs_of rows ask ∷ [] → vec_len nd2 ≡ vec_len nd + 1 → vec_capacity nd ≤ vec_capacity nd2 → IsCore fits rows limit ev2 nd2 im
-  core_load ev nd im core op caller ask answer ev2 items len cap nd2 items2 len2 cap2 =
+  pub journal_load : (ev : Vec Event Global) (im : Vec (Option I) Global) → IsJournal fits rows limit ev im → (op : OpId) (caller : ℕ) (ask : Ask) → IsAnswer rows limit ev.items (Load op caller ask) → (ev2 : Vec Event Global) → ev2.items ≡ ev.items ++ Load op caller ask ∷ [] → vec_len ev2 ≡ vec_len ev + 1 → vec_capacity ev ≤ vec_capacity ev2 → IsJournal fits rows limit ev2 im
+  journal_load ev im journal op caller ask answer ev2 items len cap =
       let e = Load op caller ask in
       let g = ev.items ++ e ∷ [] in
-      let held = same_held ev.items g im.items core.held (load_stays rows limit ev.items core.known.legal op caller ask answer) (λ b is. was_resident rows limit ev.items e b refl is) in
-      record {
-        known = subst (λ (l : List Event). Known rows limit l nd2.items) (sym items) (subst (λ (n : List (List BundleNo)). Known rows limit g n) (sym items2) (known_load rows limit ev.items nd.items core.known op caller ask answer));
-        few_bundles = core.few_bundles;
-        journal_length = omega (arith, len, core.journal_length, ap length items, length-append ev.items (e ∷ []));
-        needs_length = omega (arith, len2, core.needs_length, ap length items2, length-append nd.items (needs_of rows ask ∷ []));
-        journal_room = omega (arith, core.journal_room, cap);
-        needs_room = omega (arith, core.needs_room, cap2);
-        held = subst (λ (l : List Event). HasImages (machine l im.items)) (sym items) held;
-        fitting = subst (λ (l : List Event). ImagesFit fits (machine l im.items)) (sym items) (same_fit ev.items g im.items core.fitting);
-      }
+      journal_push ev im journal e answer ev2 items len cap im
+      (same_held ev.items g im.items journal.held (load_stays rows limit ev.items journal.known.legal op caller ask answer) (λ b is. was_resident rows limit ev.items e b refl is))
+      (same_fit ev.items g im.items journal.fitting)
 
-  pub core_record : (ev : Vec Event Global) (nd : Vec (List BundleNo) Global) (im : Vec (Option I) Global) → IsCore fits rows limit ev nd im → (e : Event) → IsAnswer rows limit ev.items e → IsQuiet rows ev.items e → is_load e ≡ false → (ev2 : Vec Event Global) → ev2.items ≡ ev.items ++ e ∷ [] → vec_len ev2 ≡ vec_len ev + 1 → vec_capacity ev ≤ vec_capacity ev2 → IsCore fits rows limit ev2 nd im
-  core_record ev nd im core e answer quiet other ev2 items len cap =
+  pub journal_record : (ev : Vec Event Global) (im : Vec (Option I) Global) → IsJournal fits rows limit ev im → (e : Event) → IsAnswer rows limit ev.items e → IsQuiet rows ev.items e → (ev2 : Vec Event Global) → ev2.items ≡ ev.items ++ e ∷ [] → vec_len ev2 ≡ vec_len ev + 1 → vec_capacity ev ≤ vec_capacity ev2 → IsJournal fits rows limit ev2 im
+  journal_record ev im journal e answer quiet ev2 items len cap =
       let g = ev.items ++ e ∷ [] in
-      core_push ev nd im core e answer other ev2 items len cap im
-      (same_held ev.items g im.items core.held (quiet_stays rows limit ev.items core.known.legal e answer quiet) (quiet_was rows limit ev.items core.known.legal e answer quiet))
-      (same_fit ev.items g im.items core.fitting)
+      journal_push ev im journal e answer ev2 items len cap im
+      (same_held ev.items g im.items journal.held (quiet_stays rows limit ev.items journal.known.legal e answer quiet) (quiet_was rows limit ev.items journal.known.legal e answer quiet))
+      (same_fit ev.items g im.items journal.fitting)
 
   first_held : (n from : ℕ) → map is_some (let l : List (Option I) = replicate n None in l) ≡ map (is_resident rows []) (numbers from n)
   first_held zero from = refl
   first_held (suc n) from =
-      ap (λ t. t ∷ map is_some (let l : List (Option I) = replicate n None in l)) (sym (none_resident rows (record { 0 = from })))
+      ap (λ t. t ∷ map is_some (let l : List (Option I) = replicate n None in l)) (sym (none_resident rows limit (record { 0 = from })))
       ∙ ap (λ (l : List Bool). is_resident rows [] (record { 0 = from }) ∷ l) (first_held n (from + 1))
 
   no_image : (n b : ℕ) (image : I) → slice_get (replicate n None) b ≡ Some (Some image) → ⊥
@@ -245,30 +201,19 @@ module _ {I : Type 0} (fits : I → ℕ → Digest → Type 0) (rows : Rows) (li
   no_image (suc n) zero image is = cc
   no_image (suc n) (suc b) image is = no_image n b image is
 
-  pub core_open : (ev : Vec Event Global) (nd : Vec (List BundleNo) Global) (im : Vec (Option I) Global) → IsTrue (list_all (λ a. has_sound_deps (length rows.bundles) a.deps) rows.assets) → 1 ≤ limit → limit ≤ 1000000 → length rows.bundles < 2 ^ 32 → ev.items ≡ [] → vec_len ev ≡ 0 → vec_capacity ev ≡ limit → nd.items ≡ [] → vec_len nd ≡ 0 → vec_capacity nd ≡ limit → im.items ≡ replicate (length rows.bundles) None → IsCore fits rows limit ev nd im
-  unfolding HasImages ImagesFit needs_of_loads
-  core_open ev nd im sound positive few few_bundles items len cap items2 len2 cap2 images = record {
-    known = subst (λ (l : List Event). Known rows limit l nd.items) (sym items) (record { legal = empty rows limit; paired = items2; short = omega arith; sound = sound; positive = positive; few = few });
+  pub journal_open : (ev : Vec Event Global) (im : Vec (Option I) Global) → IsTrue (list_all (λ a. has_sound_deps (length rows.bundles) a.deps) rows.assets) → 1 ≤ limit → limit ≤ 1000000 → length rows.bundles < 2 ^ 32 → ev.items ≡ [] → vec_len ev ≡ 0 → vec_capacity ev ≡ limit → im.items ≡ replicate (length rows.bundles) None → IsJournal fits rows limit ev im
+  unfolding HasImages ImagesFit
+  journal_open ev im sound positive few few_bundles items len cap images = record {
+    known = subst (Known rows limit) (sym items) (record { legal = empty rows limit; short = omega arith; sound = sound; positive = positive; few = few });
     few_bundles = few_bundles;
     journal_length = omega (arith, len, ap length items);
-    needs_length = omega (arith, len2, ap length items2);
     journal_room = omega (arith, cap);
-    needs_room = omega (arith, cap2);
     held = subst (λ (l : List Event). HasImages (machine l im.items)) (sym items) (ap (map is_some) images ∙ first_held (length rows.bundles) 0);
     fitting = λ b. if_any (slice_get rows.bundles b) (λ row. (image : I) → slice_get im.items b ≡ Some (Some image) → fits image row.size row.digest) (λ row image is. absurd (no_image (length rows.bundles) b image (ap (λ (l : List (Option I)). slice_get l b) (sym images) ∙ is)));
   }
 
   pub same_machine : (h h2 : List Event) (images images2 : List (Option I)) → h ≡ h2 → images ≡ images2 → machine h images ≡ machine h2 images2
   same_machine h h2 images images2 a b = ap (λ (l : List Event). machine l images) a ∙ ap (λ (l : List (Option I)). machine h2 l) b
-
--- a quiet event is no Load
-pub quiet_no_load : (rows : Rows) (h : List Event) (e : Event) → IsQuiet rows h e → is_load e ≡ false
-quiet_no_load rows h (Load op c k) quiet = absurd quiet
-quiet_no_load rows h (Release o c) quiet = absurd quiet
-quiet_no_load rows h (Take o c) quiet = refl
-quiet_no_load rows h (Done o c) quiet = refl
-quiet_no_load rows h (Fail o c k) quiet = refl
-quiet_no_load rows h Close quiet = refl
 
 -- the answers behind the tests
 pub release_answer : (rows : Rows) (limit : ℕ) (h : List Event) (op : OpId) (caller : ℕ) → is_unreleased h op ≡ true → IsAnswer rows limit h (Release op caller)

@@ -1,25 +1,9 @@
--- The images beside a journal, one event on; and what a core keeps.
-use Rattle.std.proofs.Common.{◌≡◌, ◌⊎◌, inl, inr, ℕ, ◌+◌, ◌≤◌, ◌<◌, zero, suc, Bool, true, false, ◌&&◌, ◌||◌, ltb, List, [], ◌∷◌, ◌++◌, length, map, set, take, drop, get_or, Option, Some, None, is_some, slice_get, refl, sym, ◌∙◌, ap, subst, append_assoc, arith, if◌then◌else◌, length-take}
-use Rattle.std.proofs.lemmas.Bool.{false≢true, and_parts, or_cases, ltb-true, lt-ltb}
-use Rattle.std.proofs.lemmas.List.{take_more, drop_more, set_at, get_or_at, length-map}
-use Rattle.std.proofs.lemmas.List.FromFn.{length-enumerate_from}
+-- Lists of images, one place a bundle, as a test says which of them are kept.
+use Rattle.std.proofs.Common.{◌≡◌, ◌⊎◌, inl, inr, ℕ, ◌+◌, ◌≤◌, zero, suc, Bool, true, false, List, [], ◌∷◌, map, set, Option, Some, None, is_some, slice_get, refl, sym, ◌∙◌, ap, subst, arith, if◌then◌else◌}
+use Rattle.std.proofs.lemmas.Bool.{false≢true}
 use Rattle.std.specs.List.{enumerate_from}
 use Rattle.addr_base.specs.declared.ids.BundleNo.{BundleNo}
-use Rattle.addr_locate.specs.Rows.{Rows}
-use Rattle.addr_history.specs.declared.event.Event.{Event}
-use Rattle.addr_history.specs.Events.{is_done_of}
-use Rattle.addr_history.specs.Counts.{count_of}
-use Rattle.addr_history.specs.Places.{is_resident}
-use Rattle.addr_history.specs.Legal.{Legal}
-use Rattle.addr_core.specs.Walk.{needs_of_loads, names, counted}
-use Rattle.addr_history.proofs.Steps.{counts_on, resident_push}
-use Rattle.addr_history.proofs.Legality.{by_events}
-use Rattle.addr_core.proofs.Walking.{count_step}
 use Rattle.addr_history.proofs.Owed.{numbers}
-
-pub none_resident : (rows : Rows) (b : BundleNo) → is_resident rows [] b ≡ false
-unfolding is_resident
-none_resident rows b = refl
 
 same_from : (test kept : BundleNo → Bool) (n k : ℕ) → ((m : ℕ) → n ≤ m → test (record { 0 = m }) ≡ kept (record { 0 = m })) → map test (numbers n k) ≡ map kept (numbers n k)
 same_from test kept n zero same = refl
@@ -92,48 +76,4 @@ module _ {I : Type 0} where
   fit_set v (x ∷ images) (suc j) (suc b) image is = elim (fit_set v images j b image is) [
     | inl (place, same) ↦ inl (ap suc place, same)
     | inr old ↦ inr old
-  ]
-
-  left_push : (kept : BundleNo → Bool) (images : List (Option I)) (n : ℕ) (x : Option I) → left_from kept n (images ++ x ∷ []) ≡ left_from kept n images ++ (if kept (record { 0 = n + length images }) then x else None) ∷ []
-  left_push kept [] n x = let at : n ≡ n + zero = omega arith in ap (λ m. (if kept (record { 0 = m }) then x else None) ∷ []) at
-  left_push kept (y ∷ images) n x =
-      let at : (n + 1) + length images ≡ n + suc (length images) = omega arith in
-      ap (λ (l : List (Option I)). (if kept (record { 0 = n }) then y else None) ∷ l) (left_push kept images (n + 1) x ∙ ap (λ m. left_from kept (n + 1) images ++ (if kept (record { 0 = m }) then x else None) ∷ []) at)
-
-  pub left_step : (kept : BundleNo → Bool) (old now : List (Option I)) (n : ℕ) (d : Option I) → n < length old → now ≡ left_from kept 0 (take n old) ++ drop n old → set now n (if kept (record { 0 = n }) then get_or now n d else None) ≡ left_from kept 0 (take (n + 1) old) ++ drop (n + 1) old
-  left_step kept old now n d lt is =
-      let x = get_or old n d in
-      let long : length (left_from kept 0 (take n old)) ≡ n = omega (arith, length-map (enumerate_from 0 (take n old)) (λ p. if kept (record { 0 = p.0 }) then p.1 else None), length-enumerate_from 0 (take n old), length-take n old) in
-      let cut : now ≡ left_from kept 0 (take n old) ++ x ∷ drop (n + 1) old = is ∙ ap (λ (l : List (Option I)). left_from kept 0 (take n old) ++ l) (drop_more old n d lt) in
-      let here : get_or now n d ≡ x = ap (λ (l : List (Option I)). get_or l n d) cut ∙ get_or_at (left_from kept 0 (take n old)) x (drop (n + 1) old) d n long in
-      let place : 0 + length (take n old) ≡ n = omega (arith, length-take n old) in
-      ap (λ (o : Option I). set now n (if kept (record { 0 = n }) then o else None)) here
-      ∙ ap (λ (l : List (Option I)). set l n (if kept (record { 0 = n }) then x else None)) cut
-      ∙ set_at (left_from kept 0 (take n old)) x (drop (n + 1) old) (if kept (record { 0 = n }) then x else None) n long
-      ∙ sym (ap (λ (l : List (Option I)). l ++ drop (n + 1) old) (ap (left_from kept 0) (take_more old n d lt) ∙ left_push kept (take n old) 0 x ∙ ap (λ m. left_from kept 0 (take n old) ++ (if kept (record { 0 = m }) then x else None) ∷ []) place) ∙ append_assoc (left_from kept 0 (take n old)) ((if kept (record { 0 = n }) then x else None) ∷ []) (drop (n + 1) old))
-
-module _ (rows : Rows) (limit : ℕ) where
-  -- a resident bundle is counted
-  pub resident_counted : (h : List Event) → Legal rows limit h → (b : BundleNo) → is_resident rows h b ≡ true → ltb 0 (count_of rows h b) ≡ true
-  resident_counted = by_events rows limit (λ h. (b : BundleNo) → is_resident rows h b ≡ true → ltb 0 (count_of rows h b) ≡ true) (λ b is. absurd (false≢true (sym (first b) ∙ is))) (λ h e legal answer before b is. (and_parts (is_resident rows h b || is_done_of b e) (counts_on rows h e b) (sym (resident_push rows h e b) ∙ is)).1)
-    where
-      first : (b : BundleNo) → is_resident rows [] b ≡ false
-      first b = none_resident rows b
-
-  -- the count after an event that is neither a Load nor a Release
-  pub count_kept : (h : List Event) (e : Event) (b : BundleNo) → Legal rows limit (h ++ e ∷ []) → ((named : Bool) (n : ℕ) → counted e named n ≡ n) → count_of rows (h ++ e ∷ []) b ≡ count_of rows h b
-  count_kept h e b legal same = count_step rows limit h e [] b legal ∙ same (names (needs_of_loads rows (h ++ e ∷ [])) b e) (count_of rows h b)
-
-  -- who is resident stays so, where the count doesn't fall
-  pub stays_resident : (h : List Event) (e : Event) → Legal rows limit h → ((b : BundleNo) → count_of rows h b ≤ count_of rows (h ++ e ∷ []) b) → (b : BundleNo) → is_resident rows h b ≡ true → is_resident rows (h ++ e ∷ []) b ≡ true
-  stays_resident h e legal rises b is =
-      resident_push rows h e b
-      ∙ ap (λ t. (t || is_done_of b e) && counts_on rows h e b) is
-      ∙ lt-ltb 0 (count_of rows (h ++ e ∷ []) b) (omega (arith, rises b, ltb-true 0 (count_of rows h b) (resident_counted h legal b is)))
-
-  -- who is resident was so, but where a Done brought it
-  pub was_resident : (h : List Event) (e : Event) (b : BundleNo) → is_done_of b e ≡ false → is_resident rows (h ++ e ∷ []) b ≡ true → is_resident rows h b ≡ true
-  was_resident h e b other is = elim (or_cases (is_resident rows h b) (is_done_of b e) (and_parts (is_resident rows h b || is_done_of b e) (counts_on rows h e b) (sym (resident_push rows h e b) ∙ is)).0) [
-    | inl old ↦ old
-    | inr new ↦ absurd (false≢true (sym other ∙ new))
   ]

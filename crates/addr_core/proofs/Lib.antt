@@ -1,7 +1,18 @@
-mod Advance
-mod Keeping
-mod Needs
-mod Preparing
-mod Queueing
-mod Since
-mod Walking
+pub mod Accepting
+pub mod Advance
+pub mod Answering
+pub mod Changing
+pub mod Clearing
+pub mod CourseSteps
+pub mod Fresh
+pub mod HeldImages
+pub mod Holding
+pub mod Keeping
+pub mod Leaving
+pub mod Machines
+pub mod NeedsSteps
+pub mod Nows
+pub mod Places
+pub mod Preparing
+pub mod SlotSteps
+pub mod WaitPlaces

@@ -1,22 +1,30 @@
-// The machine. Every answer is read off the journal anew, by walks that take no memory; a change is one event pushed
-// into room that was taken when the machine was opened.
-ghost use Rattle.std.specs.Prelude.{◌≡◌, ◌≤◌, ◌<◌, ◌^◌, ◌∷◌, [], true, length, IfOk, IfSome, slice_get, Ok};
+// The machine. Beside its journal it keeps where each bundle stands, how far each operation is, and the queue; no call but
+// `open` and `journal` walks the journal.
+ghost use Rattle.std.specs.Prelude.{◌≡◌, ◌≤◌, ◌<◌, ◌+◌, ◌^◌, ◌∷◌, [], true, false, length, replicate, nat_lt, IfOk, IfSome, OnOk, OnErr, slice_get, Ok};
+ghost use Rattle.addr_locate.specs.Rows.{are_bundles, no_repeats};
 ghost use Rattle.addr_history.specs.Answers.{load_reply, release_reply, release_adds, status_reply, take_reply, take_adds, done_reply, done_adds, fail_reply, fail_adds, close_reply, close_adds, count_reply};
-ghost use Rattle.addr_history.specs.declared.event.Event.TheVariants.{Load, Release, Done};
+ghost use Rattle.addr_history.specs.declared.event.Event.TheVariants.{Load, Release, Take, Done, Fail, Close};
 ghost use Rattle.addr_history.specs.declared.answers.Settled.TheVariants.{Kept};
 ghost use Rattle.addr_history.specs.Events.{needs_of};
 ghost use Rattle.addr_history.specs.Legal.{Legal, IsAnswer};
-ghost use Rattle.addr_history.specs.Places.{is_fetched_by};
-ghost use Rattle.addr_history.specs.Counts.{count_of, is_unreleased, loads_of};
-ghost use Rattle.addr_core.specs.Walk.{IsQuiet};
-ghost use Rattle.addr_core.specs.Machine.{Machine, fresh, grown, with_kept, Loads, HasImages, ImagesFit};
+ghost use Rattle.addr_history.specs.Places.{is_fetched_by, queue};
+ghost use Rattle.addr_history.specs.Counts.{count_of, is_closed, is_unreleased, loads_of};
+ghost use Rattle.addr_core.specs.Machine.{Machine, fresh, grown, with_kept, Loads, HasImages, IdleHaveNone, ImagesFit};
 
-use crate::images::{keep_resident, no_images, push_within, put};
-use crate::past::{Past, is_closed, is_fetched_by, is_unreleased};
+use crate::courses::{Course, course_at, fail_each, give_back, take_needs, wake_each};
+use crate::images::{clear_each, put};
+use crate::now::Now;
 use crate::prepare::prepare;
+use crate::queueing::{join_each, leave_each};
+use crate::slots::{
+    Slot, end_slot, is_counted, is_taken_by, lacking, let_go_each, slot_at, take_in_each, take_slot,
+};
+use crate::start::{no_images, no_slots, no_waiters, push_within};
+use crate::waiters::{Waiters, clear_waiters, forget_each, make_room_each, wait_each, waiting};
 use addr_base::{BundleNo, Cause, Image, Items, NoMemory, OpId};
 use addr_history::{Ask, BundleState, Event, LoadErr, Next, NoHandle, NotTaken, OpStatus, Settled};
 use addr_locate::Locator;
+use addr_queue::Queue;
 use std::alloc::Global;
 use std::marker::Model;
 
@@ -28,75 +36,58 @@ pub struct Core<I: Image + Drop> {
     events: Vec<Event>,
     needs: Vec<Items<BundleNo>>,
     images: Vec<Option<I>>,
+    slots: Vec<Slot>,
+    courses: Vec<Course>,
+    waits: Vec<Waiters>,
+    queue: Queue,
+    fetched: u32,
+    opened: u32,
+    closed: bool,
     alloc: Global,
 }
 
 impl<I: Image + Drop> Model for Core<I> {
-    ghost use Rattle.addr_core.specs.Machine.{Machine, IsCore};
+    ghost use Rattle.addr_core.specs.Machine.{Machine};
+    ghost use Rattle.addr_core.specs.within.Kept.{IsCore};
 
     ghost Value = { Machine I };
 
     ghost view = { λ c. record { rows = c.locator; limit = c.limit; history = c.events.items; images = c.images.items } };
 
-    ghost invariant = { λ c. IsCore I.fits c.locator c.limit c.events c.needs c.images };
+    ghost invariant = { λ c. IsCore I.fits c.locator c.limit c.events c.needs c.images c.slots c.courses c.waits c.queue c.fetched c.opened c.closed };
 }
 
 impl<I: Image + Drop> Core<I> {
-    /// A machine without an event. Takes the journal's whole room and the places for images at once.
+    /// A machine without an event. Takes the journal's whole room and the places for bundles at once.
     pub fn open(alloc: Global, locator: Locator, limit: u32) -> Result<Core<I>, NoMemory>
         requires least { 1 ≤ limit }
         requires greatest { limit ≤ 1000000 }
         ensures { IfOk result (λ core. core ≡ fresh locator limit) }
     {
         let _assets = locator.assets();
+        let count = locator.bundles().len();
         let events = Vec::with_capacity(alloc, limit as usize)?;
         let needs = Vec::with_capacity(alloc, limit as usize)?;
-        let images = no_images(alloc, locator.bundles().len())?;
+        let courses = Vec::with_capacity(alloc, limit as usize)?;
+        let images = no_images(alloc, count)?;
+        let slots = no_slots(alloc, count)?;
+        let waits = no_waiters(alloc, count)?;
+        let queue = Queue::new(alloc, count as u32)?;
         Ok(Core {
             locator,
             limit,
             events,
             needs,
             images,
+            slots,
+            courses,
+            waits,
+            queue,
+            fetched: 0,
+            opened: 0,
+            closed: false,
             alloc,
         })
-    }
-
-    fn past(&self) -> Past<'_>
-        ensures rows { result.locator.now ≡ self.now.rows }
-        ensures limit { result.limit ≡ self.now.limit }
-        ensures history { result.events.now ≡ self.now.history }
-    {
-        Past {
-            locator: &self.locator,
-            limit: self.limit,
-            events: self.events.as_slice(),
-            needs: self.needs.as_slice(),
-        }
-    }
-
-    /// How far an operation is.
-    pub fn status(&self, op: OpId) -> Result<OpStatus, NoHandle>
-        ensures { result ≡ status_reply self.now.rows self.now.history op }
-    {
-        status(&self.past(), op)
-    }
-
-    /// A bundle's count, and where it is.
-    pub fn count(&self, b: BundleNo) -> Option<(u32, BundleState)>
-        ensures { result ≡ count_reply self.now.rows self.now.history b }
-    {
-        count(&self.past(), b)
-    }
-
-    /// The events so far.
-    pub fn journal(&self) -> &[Event]
-        ensures history { result.now ≡ self.now.history }
-        ensures legal { Legal self.now.rows self.now.limit self.now.history }
-        ensures held { HasImages self.now }
-        ensures fitting { ImagesFit I.fits self.now }
-    {
-        self.events.as_slice()
     }
 
     /// Opens an operation. The events that its completion and its release need are reserved.
@@ -104,20 +95,83 @@ impl<I: Image + Drop> Core<I> {
         requires { length ask.keys < 2 ^ 32 }
         ensures { Loads self.old caller ask result self.new }
     {
-        let needs = prepare(self.alloc, &self.past(), &ask)?;
-        Ok(self.accept(caller, ask, needs))
+        let needs = prepare(self.alloc, &self.now(), &ask)?;
+        match self.accept(caller, ask, needs) {
+            Ok(op) => Ok(op),
+            Err(_) => Err(LoadErr::NoMemory),
+        }
     }
 
-    fn accept(&mut self, caller: u32, ask: Ask, needs: Items<BundleNo>) -> OpId
+    fn accept(&mut self, caller: u32, ask: Ask, needs: Items<BundleNo>) -> Result<OpId, NoMemory>
         requires needs { needs ≡ needs_of self.old.rows ask }
         requires accepted { load_reply self.old.rows self.old.limit self.old.history ask ≡ Ok (record { 0 = loads_of self.old.history }) }
-        ensures number { result ≡ record { 0 = loads_of self.old.history } }
-        ensures machine { self.new ≡ grown self.old (Load result caller ask ∷ []) }
+        ensures number { IfOk result (λ op. op ≡ record { 0 = loads_of self.old.history }) }
+        ensures machine { IfOk result (λ op. self.new ≡ grown self.old (Load op caller ask ∷ [])) }
+        ensures err { OnErr result (self.new ≡ self.old) }
     {
+        make_room_each(
+            self.waits.as_mut_slice(),
+            self.slots.as_slice(),
+            needs.as_slice(),
+        )?;
         let op = OpId(self.needs.len() as u32);
+        let missing = lacking(self.slots.as_slice(), needs.as_slice());
+        join_each(&mut self.queue, self.slots.as_slice(), needs.as_slice());
+        wait_each(
+            self.waits.as_mut_slice(),
+            self.slots.as_slice(),
+            needs.as_slice(),
+            op.0,
+        );
+        take_in_each(self.slots.as_mut_slice(), needs.as_slice());
+        push_within(
+            &mut self.courses,
+            Course {
+                missing,
+                failed: None,
+                released: false,
+            },
+        );
         push_within(&mut self.events, Event::Load { op, caller, ask });
         push_within(&mut self.needs, needs);
-        op
+        self.opened += 1;
+        Ok(op)
+    }
+
+    fn now(&self) -> Now<'_>
+        ensures rows { result.locator.now ≡ self.now.rows }
+        ensures limit { result.limit ≡ self.now.limit }
+        ensures history { result.events.now ≡ self.now.history }
+    {
+        Now {
+            locator: &self.locator,
+            limit: self.limit,
+            events: self.events.as_slice(),
+            slots: self.slots.as_slice(),
+            queued: self.queue.len(),
+            fetched: self.fetched,
+            opened: self.opened,
+            closed: self.closed,
+        }
+    }
+
+    /// How far an operation is.
+    pub fn status(&self, op: OpId) -> Result<OpStatus, NoHandle>
+        ensures { result ≡ status_reply self.now.rows self.now.history op }
+    {
+        match course_at(self.courses.as_slice(), op) {
+            Some(course) => course.status(),
+            None => Err(NoHandle),
+        }
+    }
+
+    fn is_open(&self, op: OpId) -> bool
+        ensures { result ≡ is_unreleased self.now.history op }
+    {
+        match course_at(self.courses.as_slice(), op) {
+            Some(course) => !course.released,
+            None => false,
+        }
     }
 
     /// Gives an operation back. A bundle whose count falls to zero loses its image or its place in the queue.
@@ -126,7 +180,7 @@ impl<I: Image + Drop> Core<I> {
         ensures reply { result ≡ release_reply self.old.history op }
         ensures machine { self.new ≡ grown self.old (release_adds self.old.history caller op) }
     {
-        if !is_unreleased(self.past().events, op) {
+        if !self.is_open(op) {
             return Err(NoHandle);
         }
         self.let_go(caller, op);
@@ -138,22 +192,28 @@ impl<I: Image + Drop> Core<I> {
         ensures { self.new ≡ grown self.old (Release op caller ∷ []) }
     {
         push_within(&mut self.events, Event::Release { op, caller });
-        let past = Past {
-            locator: &self.locator,
-            limit: self.limit,
-            events: self.events.as_slice(),
-            needs: self.needs.as_slice(),
-        };
-        keep_resident(&past, self.images.as_mut_slice());
+        let needs = take_needs(self.alloc, self.needs.as_mut_slice(), op);
+        let bundles = needs.as_slice();
+        leave_each(&mut self.queue, self.slots.as_slice(), bundles);
+        let_go_each(self.slots.as_mut_slice(), bundles);
+        clear_each(self.images.as_mut_slice(), self.slots.as_slice(), bundles);
+        forget_each(
+            self.alloc,
+            self.waits.as_mut_slice(),
+            self.slots.as_slice(),
+            bundles,
+        );
+        give_back(self.courses.as_mut_slice(), op.0);
+        self.opened -= 1;
     }
 
-    /// Adds an event after which the same bundles are resident.
-    fn record(&mut self, e: Event)
-        requires answer { IsAnswer self.old.rows self.old.limit self.old.history e }
-        requires quiet { IsQuiet self.old.rows self.old.history e }
-        ensures { self.new ≡ grown self.old (e ∷ []) }
+    fn next(&self) -> Next
+        ensures { result ≡ take_reply self.now.rows self.now.history }
     {
-        push_within(&mut self.events, e);
+        match self.queue.first() {
+            Some(b) => Next::Bundle(b),
+            None => if self.closed { Next::End } else { Next::Idle },
+        }
     }
 
     /// The first queued bundle, for a worker to fetch.
@@ -161,14 +221,24 @@ impl<I: Image + Drop> Core<I> {
         ensures reply { result ≡ take_reply self.old.rows self.old.history }
         ensures machine { self.new ≡ grown self.old (take_adds result worker) }
     {
-        match next(&self.past()) {
+        match self.next() {
             Next::Bundle(b) => {
-                self.record(Event::Take { b, worker });
+                self.record_take(worker, b);
                 Next::Bundle(b)
             }
             Next::Idle => Next::Idle,
             Next::End => Next::End,
         }
+    }
+
+    fn record_take(&mut self, worker: u32, b: BundleNo)
+        requires { IsAnswer self.old.rows self.old.limit self.old.history (Take b worker) }
+        ensures { self.new ≡ grown self.old (Take b worker ∷ []) }
+    {
+        push_within(&mut self.events, Event::Take { b, worker });
+        take_slot(self.slots.as_mut_slice(), b, worker);
+        self.queue.remove(b);
+        self.fetched += 1;
     }
 
     /// Ends a fetch with the bundle's image. It comes back where that worker doesn't fetch the bundle, and is let go
@@ -179,15 +249,28 @@ impl<I: Image + Drop> Core<I> {
         ensures reply { result ≡ done_reply self.old.rows self.old.history worker b image }
         ensures machine { self.new ≡ with_kept (grown self.old (done_adds self.old.history worker b)) b image result }
     {
-        if !is_fetched_by(self.past().events, b, worker) {
+        if !self.is_fetched_by(b, worker) {
             return Err(image);
         }
-        if self.past().standing(b).count == 0 {
-            self.record(Event::Done { b, worker });
+        if !self.is_counted(b, worker) {
+            self.record_dropped(worker, b);
             return Ok(Settled::Dropped);
         }
         self.keep(worker, b, image);
         Ok(Settled::Kept)
+    }
+
+    fn is_fetched_by(&self, b: BundleNo, worker: u32) -> bool
+        ensures { result ≡ is_fetched_by self.now.history b worker }
+    {
+        is_taken_by(self.slots.as_slice(), b, worker)
+    }
+
+    fn is_counted(&self, b: BundleNo, worker: u32) -> bool
+        requires { is_fetched_by self.now.history b worker ≡ true }
+        ensures { result ≡ nat_lt 0 (count_of self.now.rows self.now.history b) }
+    {
+        is_counted(self.slots.as_slice(), b)
     }
 
     fn keep(&mut self, worker: u32, b: BundleNo, image: I)
@@ -198,6 +281,23 @@ impl<I: Image + Drop> Core<I> {
     {
         push_within(&mut self.events, Event::Done { b, worker });
         put(self.images.as_mut_slice(), b, image);
+        end_slot(self.slots.as_mut_slice(), b, true);
+        wake_each(
+            self.courses.as_mut_slice(),
+            waiting(self.waits.as_slice(), b),
+        );
+        clear_waiters(self.waits.as_mut_slice(), b);
+        self.fetched -= 1;
+    }
+
+    fn record_dropped(&mut self, worker: u32, b: BundleNo)
+        requires fetched { is_fetched_by self.old.history b worker ≡ true }
+        requires counted { count_of self.old.rows self.old.history b ≡ 0 }
+        ensures { self.new ≡ grown self.old (Done b worker ∷ []) }
+    {
+        push_within(&mut self.events, Event::Done { b, worker });
+        end_slot(self.slots.as_mut_slice(), b, false);
+        self.fetched -= 1;
     }
 
     /// Ends a fetch without an image.
@@ -206,11 +306,26 @@ impl<I: Image + Drop> Core<I> {
         ensures reply { result ≡ fail_reply self.old.history worker b }
         ensures machine { self.new ≡ grown self.old (fail_adds self.old.history worker b cause) }
     {
-        if !is_fetched_by(self.past().events, b, worker) {
+        if !self.is_fetched_by(b, worker) {
             return Err(NotTaken);
         }
-        self.record(Event::Fail { b, worker, cause });
+        self.record_failed(worker, b, cause);
         Ok(())
+    }
+
+    fn record_failed(&mut self, worker: u32, b: BundleNo, cause: Cause)
+        requires { is_fetched_by self.old.history b worker ≡ true }
+        ensures { self.new ≡ grown self.old (Fail b worker cause ∷ []) }
+    {
+        push_within(&mut self.events, Event::Fail { b, worker, cause });
+        end_slot(self.slots.as_mut_slice(), b, false);
+        fail_each(
+            self.courses.as_mut_slice(),
+            waiting(self.waits.as_slice(), b),
+            OpStatus::Failed(b, cause),
+        );
+        clear_waiters(self.waits.as_mut_slice(), b);
+        self.fetched -= 1;
     }
 
     /// Accepts no load from now on. False where it was closed before.
@@ -219,56 +334,51 @@ impl<I: Image + Drop> Core<I> {
         ensures reply { result ≡ close_reply self.old.history }
         ensures machine { self.new ≡ grown self.old (close_adds self.old.history) }
     {
-        if is_closed(self.past().events) {
+        if self.is_closed() {
             return false;
         }
-        self.record(Event::Close);
+        self.record_close();
         true
+    }
+
+    fn is_closed(&self) -> bool
+        ensures { result ≡ is_closed self.now.history }
+    {
+        self.closed
+    }
+
+    fn record_close(&mut self)
+        requires { is_closed self.old.history ≡ false }
+        ensures { self.new ≡ grown self.old (Close ∷ []) }
+    {
+        push_within(&mut self.events, Event::Close);
+        self.closed = true;
+    }
+
+    /// A bundle's count, and where it is.
+    pub fn count(&self, b: BundleNo) -> Option<(u32, BundleState)>
+        ensures { result ≡ count_reply self.now.rows self.now.history b }
+    {
+        match slot_at(self.slots.as_slice(), b) {
+            Some(slot) => Some((slot.count, slot.state())),
+            None => None,
+        }
+    }
+
+    /// The events so far.
+    pub fn journal(&self) -> &[Event]
+        ensures history { result.now ≡ self.now.history }
+        ensures legal { Legal self.now.rows self.now.limit self.now.history }
+        ensures held { HasImages self.now }
+        ensures idle { IdleHaveNone self.now }
+        ensures fitting { ImagesFit I.fits self.now }
+    {
+        self.events.as_slice()
     }
 
     pub fn locator(&self) -> &Locator
         ensures { result.now ≡ self.now.rows }
     {
         &self.locator
-    }
-}
-
-#[tactic(auto, unfolding(addr_history::specs::Answers::status_reply, addr_history::specs::Counts::is_unreleased))]
-/// How far an operation is that isn't released.
-fn status(past: &Past, op: OpId) -> Result<OpStatus, NoHandle>
-    ensures { result ≡ status_reply past.now.locator.now past.now.events.now op }
-{
-    if is_unreleased(past.events, op) {
-        Ok(past.status(op))
-    } else {
-        Err(NoHandle)
-    }
-}
-
-#[tactic(auto, unfolding(addr_history::specs::Answers::count_reply, addr_history::specs::Places::state_of))]
-/// The count and the place of a bundle, where there is one with that number.
-fn count(past: &Past, b: BundleNo) -> Option<(u32, BundleState)>
-    ensures { result ≡ count_reply past.now.locator.now past.now.events.now b }
-{
-    if (b.0 as usize) < past.locator.bundles().len() {
-        let standing = past.standing(b);
-        Some((standing.count, standing.state()))
-    } else {
-        None
-    }
-}
-
-/// What a worker is to do next.
-#[tactic(auto, unfolding(addr_history::specs::Answers::take_reply))]
-fn next(past: &Past) -> Next
-    ensures { result ≡ take_reply past.now.locator.now past.now.events.now }
-{
-    match past.first_queued() {
-        Some(b) => Next::Bundle(b),
-        None => if is_closed(past.events) {
-            Next::End
-        } else {
-            Next::Idle
-        },
     }
 }

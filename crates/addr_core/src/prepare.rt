@@ -1,12 +1,14 @@
 // All of a load that may fail, and takes memory: which refusal comes first, and which bundles are needed.
 ghost use Rattle.std.specs.Prelude.{◌≡◌, ◌+◌, ◌<◌, ◌^◌, not, nat_lt, length, take, if◌then◌else◌, IfOk, IfSome};
 ghost use Rattle.std.specs.List.{list_any, position};
+ghost use Rattle.std.specs.Prelude.{true};
+ghost use Rattle.addr_locate.specs.Rows.{are_bundles};
 ghost use Rattle.addr_locate.specs.Merge.{is_match, merged};
 ghost use Rattle.addr_history.specs.Events.{needs_of};
 ghost use Rattle.addr_history.specs.Answers.{first_missing};
-ghost use Rattle.addr_core.specs.Prepare.{Prepares};
+ghost use Rattle.addr_core.specs.within.Prepare.{Prepares};
 
-use crate::past::{Past, is_closed};
+use crate::now::Now;
 use addr_base::{BundleNo, Items, KeyNo, NoMemory, RowNo};
 use addr_history::{Ask, LoadErr};
 use addr_locate::{AssetRow, Kind, Locator, is_match};
@@ -55,40 +57,41 @@ fn chosen(rows: &[RowNo], all: bool) -> &[RowNo]
 /// The bundles that an ask needs, where it finds a row.
 fn needs_of(
     alloc: Global,
-    past: &Past,
+    now: &Now,
     ask: &Ask,
     found: &[RowNo],
 ) -> Result<Items<BundleNo>, NoMemory>
-    requires { found.now ≡ merged past.now.locator.now.assets ask.now.keys ask.now.mode ask.now.kind }
-    ensures needs { IfOk result (λ needs. needs ≡ needs_of past.now.locator.now ask.now) }
+    requires { found.now ≡ merged now.now.locator.now.assets ask.now.keys ask.now.mode ask.now.kind }
+    ensures needs { IfOk result (λ needs. needs ≡ needs_of now.now.locator.now ask.now) }
     ensures few { IfOk result (λ needs. length needs < 2 ^ 32) }
+    ensures within { IfOk result (λ needs. are_bundles (length now.now.locator.now.bundles) needs ≡ true) }
 {
-    let _bundles = past.locator.bundles();
-    let needs = past.locator.deps(alloc, chosen(found, ask.all))?;
+    let _bundles = now.locator.bundles();
+    let needs = now.locator.deps(alloc, chosen(found, ask.all))?;
     Ok(needs)
 }
 
 /// The first refusal, or the bundles that the load needs.
-pub fn prepare(alloc: Global, past: &Past, ask: &Ask) -> Result<Items<BundleNo>, LoadErr>
+pub fn prepare(alloc: Global, now: &Now, ask: &Ask) -> Result<Items<BundleNo>, LoadErr>
     requires { length ask.now.keys < 2 ^ 32 }
-    ensures { Prepares past.now.locator.now past.now.limit past.now.events.now ask.now result }
+    ensures { Prepares now.now.locator.now now.now.limit now.now.events.now ask.now result }
 {
-    if is_closed(past.events) {
+    if now.closed {
         return Err(LoadErr::Closed);
     }
-    let found = past
+    let found = now
         .locator
         .locate(alloc, ask.keys.as_slice(), ask.mode, ask.kind)?;
     if found.as_slice().is_empty() {
         return Err(LoadErr::NoLocation {
-            first: first_missing(past.locator, ask),
+            first: first_missing(now.locator, ask),
         });
     }
-    let needs = needs_of(alloc, past, ask, found.as_slice())?;
-    let used = used(past);
-    let reserved = past.reserved();
-    let needed = past.needed(needs.as_slice());
-    if passes(past.limit, used, reserved, needed) {
+    let needs = needs_of(alloc, now, ask, found.as_slice())?;
+    let used = used(now);
+    let reserved = now.reserved();
+    let needed = now.needed(needs.as_slice());
+    if passes(now.limit, used, reserved, needed) {
         return Err(LoadErr::JournalFull {
             used,
             reserved,
@@ -98,10 +101,10 @@ pub fn prepare(alloc: Global, past: &Past, ask: &Ask) -> Result<Items<BundleNo>,
     Ok(needs)
 }
 
-fn used(past: &Past) -> u32
-    ensures { result ≡ length past.now.events.now }
+fn used(now: &Now) -> u32
+    ensures { result ≡ length now.now.events.now }
 {
-    past.events.len() as u32
+    now.events.len() as u32
 }
 
 /// Whether the three numbers sum to more than the limit.

@@ -54,7 +54,7 @@ count_past p b (suc n) from lt =
     let off : one_if (eqb b.0 from && p head) ≡ 0 = ap (λ t. one_if (t && p head)) (ne_eqb b.0 from (λ same. omega arith)) in
     omega (arith, count-cons (λ (c : BundleNo). eqb b.0 c.0 && p c) head (numbers (from + 1) n), count_past p b n (from + 1) (omega arith))
 
-count_one : (p : BundleNo → Bool) (b : BundleNo) (n from : ℕ) → count_by (λ c. eqb b.0 c.0 && p c) (numbers from n) ≤ one_if (p b)
+pub count_one : (p : BundleNo → Bool) (b : BundleNo) (n from : ℕ) → count_by (λ c. eqb b.0 c.0 && p c) (numbers from n) ≤ one_if (p b)
 count_one p b zero from = omega arith
 count_one p b (suc n) from = elim (cases_eq b.0 from) [
   | inl same ↦
@@ -80,7 +80,7 @@ count_in_range b (suc n) from le lt = elim (cases_eq b.0 from) [
 ]
 
 -- no more bundles of a list among all than the list has
-count_chosen : (p : BundleNo → Bool) (bs : List BundleNo) (n from : ℕ) → count_by (λ c. is_in c bs && p c) (numbers from n) ≤ count_by p bs
+pub count_chosen : (p : BundleNo → Bool) (bs : List BundleNo) (n from : ℕ) → count_by (λ c. is_in c bs && p c) (numbers from n) ≤ count_by p bs
 count_chosen p [] n from = omega (arith, count_none (numbers from n))
 count_chosen p (b ∷ bs) n from =
     omega (arith, count_le2 (λ c. is_in c (b ∷ bs) && p c) (λ c. eqb b.0 c.0 && p c) (λ c. is_in c bs && p c) at (numbers from n), count_one p b n from, count-cons p b bs, count_chosen p bs n from)
@@ -97,7 +97,7 @@ open_as : (h : List Event) → open_count h ≡ opened (λ e. true) h
 unfolding open_count
 open_as h = count_same (is_open_load h) (λ x. is_open_load h x && true) (λ x. sym (and-true (is_open_load h x))) h
 
-closed_push : (h : List Event) (e : Event) → is_closed (h ++ e ∷ []) ≡ (is_closed h || is_close e)
+pub closed_push : (h : List Event) (e : Event) → is_closed (h ++ e ∷ []) ≡ (is_closed h || is_close e)
 unfolding is_closed
 closed_push h e = list_any_push is_close h e
 

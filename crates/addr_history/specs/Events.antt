@@ -1,5 +1,5 @@
 -- What one event says, and how a question is put to a whole history: by the events before a place and those after it.
-use Rattle.std.specs.Prelude.{ℕ, ◌==◌, Bool, true, false, ◌&&◌, ◌||◌, List, [], ◌∷◌, ◌++◌, take, if◌then◌else◌}
+use Rattle.std.specs.Prelude.{ℕ, ◌==◌, Bool, true, false, ◌&&◌, ◌||◌, List, [], ◌∷◌, ◌++◌, take, Option, Some, None, if◌then◌else◌}
 use Rattle.std.specs.List.{list_any}
 use Rattle.addr_base.specs.declared.ids.BundleNo.{BundleNo}
 use Rattle.addr_base.specs.declared.ids.OpId.{OpId}
@@ -61,6 +61,22 @@ abbrev pub is_end_of : BundleNo → Event → Bool
 is_end_of asked (Done b worker) = b.0 == asked.0
 is_end_of asked (Fail b worker cause) = b.0 == asked.0
 is_end_of asked _ = false
+
+-- the number of an event: its caller or its worker; Close has none
+abbrev pub number_of : Event → Option ℕ
+number_of (Load op caller ask) = Some caller
+number_of (Release op caller) = Some caller
+number_of (Take b worker) = Some worker
+number_of (Done b worker) = Some worker
+number_of (Fail b worker cause) = Some worker
+number_of Close = None
+
+-- the bundle of which a Take, a Done or a Fail speaks
+abbrev pub bundle_of : Event → Option BundleNo
+bundle_of (Take b worker) = Some b
+bundle_of (Done b worker) = Some b
+bundle_of (Fail b worker cause) = Some b
+bundle_of _ = None
 
 -- whether some event, with the history before it and the one after it, passes a test
 abbrev pub some_event : (List Event → Event → List Event → Bool) → List Event → List Event → Bool

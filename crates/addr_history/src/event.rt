@@ -1,6 +1,6 @@
 // What the journal is made of. An event is plain data, so that definitions over histories need no second set of records.
 ghost use Rattle.std.specs.Prelude.{◌≡◌};
-ghost use Rattle.addr_history.specs.Events.{is_load, is_load_of, is_release_of, is_close, is_take_of, is_take_by, is_done_of, is_end_of};
+ghost use Rattle.addr_history.specs.Events.{number_of, is_load, is_load_of, is_release_of, is_close, is_take_of, is_take_by, is_done_of, is_end_of};
 
 use crate::ask::Ask;
 use addr_base::{BundleNo, Cause, OpId};
@@ -40,6 +40,20 @@ pub enum Event {
 }
 
 impl Event {
+    /// The number of its caller or its worker. Close has none.
+    pub fn number(&self) -> Option<u32>
+        ensures { result ≡ number_of self.now }
+    {
+        match self {
+            Event::Load { caller, .. } => Some(*caller),
+            Event::Release { caller, .. } => Some(*caller),
+            Event::Take { worker, .. } => Some(*worker),
+            Event::Done { worker, .. } => Some(*worker),
+            Event::Fail { worker, .. } => Some(*worker),
+            Event::Close => None,
+        }
+    }
+
     pub fn is_load(&self) -> bool
         ensures { result ≡ is_load self.now }
     {

@@ -1,5 +1,5 @@
 // Laws about the definitions: each function has an empty body, and its clauses are the laws.
-ghost use Rattle.addr_history.specs.Laws.{LoadsAreNumbered, StaysWithinLimit, PrefixesAreLegal};
+ghost use Rattle.addr_history.specs.Laws.{LoadsAreNumbered, StaysWithinLimit, PrefixesAreLegal, EmptyIsLegal, AnswersAreLegal, ClosedForLoads, SpeakOfBundles};
 ghost use Rattle.addr_history.specs.Worked.{Located, Shared, Fetched, Retried, Filled};
 
 /// What holds of every legal history.
@@ -7,6 +7,10 @@ pub fn legal_histories()
     ensures numbered { LoadsAreNumbered }
     ensures within_limit { StaysWithinLimit }
     ensures prefixes { PrefixesAreLegal }
+    ensures empty { EmptyIsLegal }
+    ensures answers { AnswersAreLegal }
+    ensures closed { ClosedForLoads }
+    ensures bundles { SpeakOfBundles }
 {}
 
 /// The worked examples of `specs/Worked.antt`, computed from the definitions themselves.

@@ -1,52 +1,121 @@
-use Rattle.std.proofs.Common.{◌≡◌, ◌∙◌, ap, sym, subst, arith, refl, List, [], ◌∷◌, ◌++◌, length, Option}
+use Rattle.std.proofs.Common.{set, ◌≡◌, ◌-◌, ◌∙◌, ap, sym, subst, refl, true, None, List, [], ◌∷◌, ◌++◌, Option, map}
 use Rattle.std.proofs.lemmas.List.{with_items_is}
 use Rattle.std.specs.Vec.{with_items}
 use Rattle.addr_base.specs.declared.ids.BundleNo.{BundleNo}
-use Rattle.addr_history.specs.declared.event.Event.{Event}
 use Rattle.addr_history.specs.declared.event.Event.TheVariants.{Release}
-use Rattle.addr_core.specs.Machine.{images_left, HasImages, ImagesFit}
-use Rattle.addr_core.specs.Walk.{Known}
-use Rattle.addr_core.proofs.Keeping.{was_resident}
-use Rattle.addr_core.proofs.Advance.{core_room, core_push, release_answer, known_push, images_length, left_held, left_fit, machine}
+use Rattle.addr_history.proofs.Legality.{extend}
+use Rattle.addr_core.specs.Machine.{HasImages, ImagesFit}
+use Rattle.addr_core.proofs.Advance.{journal_has_room, journal_push, same_machine, release_answer, machine}
+use Rattle.addr_core.specs.within.Changes.{change, change_each}
+use Rattle.addr_core.specs.declared.slots.Slot.{Slot}
+use Rattle.addr_core.specs.within.Courses.{Waiting, waiting_lists, given_back}
+use Rattle.addr_core.specs.within.Slots.{passes, leaves, is_missing, is_idle, let_go}
+use Rattle.addr_core.proofs.Machines.{make_core, opens_pos}
+use Rattle.addr_core.proofs.Holding.{holds_release, leaves_there}
+use Rattle.addr_core.specs.within.Courses.{needs_at}
+use Rattle.addr_history.specs.Counts.{needs_of_op}
+use Rattle.addr_core.specs.Machine.{images_left}
+use Rattle.addr_history.proofs.CountSteps.{was_resident}
+use Rattle.addr_core.proofs.Advance.{images_length, left_held, left_fit}
+use Rattle.addr_core.proofs.NeedsSteps.{needs_are}
+use Rattle.addr_locate.specs.Rows.{no_repeats}
+use Rattle.addr_queue.specs.Queue.{Ordered}
+use Rattle.addr_core.specs.within.Slots.{left_each}
+use Rattle.addr_core.specs.within.Changes.{cleared_each}
+use Rattle.addr_history.proofs.StatusSteps.{op_needs_once}
+use Rattle.addr_core.proofs.Clearing.{released_images}
+use Rattle.addr_core.proofs.HeldImages.{images_held}
 use Rattle.addr_core.proofs.machine.Core.let_go.Goals as goal
 
 pub push_within-requires : goal.push_within-requires
 push_within-requires g c =
-    let unreleased = rw (← c.self.view_is) at c.requires in
-    core_room g.I.Image.fits c.self.inside.locator c.self.inside.limit c.self.inside.events c.self.inside.needs c.self.inside.images c.self.invariant (Release c.args.op c.args.caller) (release_answer c.self.inside.locator c.self.inside.limit c.self.inside.events.items c.args.op c.args.caller unreleased)
+    let is = rw (← c.self.view_is) at c.requires in
+    journal_has_room g.I.Image.fits c.self.inside.locator c.self.inside.limit c.self.inside.events c.self.inside.images c.self.invariant.journal (Release c.args.op c.args.caller) (release_answer c.self.inside.locator c.self.inside.limit c.self.inside.events.items c.args.op c.args.caller is)
 
-pub invariant_of-past : goal.invariant_of-past
-invariant_of-past g c =
-    let rows = c.self.inside.locator in
-    let limit = c.self.inside.limit in
-    let h = c.self.inside.events.items in
-    let unreleased = rw (← c.self.view_is) at c.requires in
-    let known = known_push rows limit h c.self.inside.needs.items c.self.invariant.known (Release c.args.op c.args.caller) (release_answer rows limit h c.args.op c.args.caller unreleased) refl in
-    record {
-      known =
-          subst (λ (l : List Event). Known rows limit l c.as_slice-2.result.now) (sym (c.as_slice.ensures.value ∙ c.push_within.ensures.items))
-          (subst (λ (n : List (List BundleNo)). Known rows limit (h ++ Release c.args.op c.args.caller ∷ []) n) (sym c.as_slice-2.ensures.value) known);
-    }
+pub leave_each-requires-clause-once : goal.leave_each-requires-clause-once
+leave_each-requires-clause-once g c =
+    let is = rw (← c.self.view_is) at c.requires in
+    let needs : c.as_slice-bundles.result.now ≡ needs_of_op c.self.inside.locator c.self.inside.events.items c.args.op =
+    c.as_slice-bundles.ensures ∙ c.take_needs-needs.ensures.taken ∙ ap (λ (l : List (List BundleNo)). needs_at l c.args.op) c.as_mut_slice.ensures.value
+    ∙ needs_are c.self.inside.locator c.self.inside.limit c.self.inside.events.items c.self.invariant.journal.known.legal c.self.inside.needs.items c.self.invariant.holds.are_needs c.args.op is in
+    let once : no_repeats c.as_slice-bundles.result.now ≡ true = ap no_repeats needs ∙ op_needs_once c.self.inside.locator c.self.inside.limit c.self.inside.events.items c.args.op in
+    once
 
-pub keep_resident-requires : goal.keep_resident-requires
-keep_resident-requires g c =
-    omega (arith, ap length c.as_mut_slice.ensures.value, images_length g.I.Image.fits c.self.inside.locator c.self.inside.limit c.self.inside.events.items c.self.inside.images.items c.self.invariant.held, c.self.invariant.few_bundles)
+pub leave_each-requires-clause-there : goal.leave_each-requires-clause-there
+leave_each-requires-clause-there g c = λ b asked passed. leaves_there c.self.inside.locator c.self.inside.limit c.self.inside.events.items c.self.inside.needs.items c.self.inside.slots.items c.self.inside.courses.items (waiting_lists c.self.inside.waits.items) c.self.inside.queue c.self.inside.fetched c.self.inside.opened c.self.inside.closed c.self.invariant.holds b (ap (λ (l : List Slot). passes leaves l b) (sym c.as_slice.ensures.value) ∙ passed)
+
+pub overflow_sub-self : goal.overflow_sub-self
+overflow_sub-self g c =
+    let is = rw (← c.self.view_is) at c.requires in
+    opens_pos c.self.inside.locator c.self.inside.limit c.self.inside.events.items c.self.inside.needs.items c.self.inside.slots.items c.self.inside.courses.items (waiting_lists c.self.inside.waits.items) c.self.inside.queue c.self.inside.fetched c.self.inside.opened c.self.inside.closed c.self.invariant.holds c.self.invariant.journal.known.sound c.self.invariant.journal.known.legal c.args.op c.args.caller is
 
 pub invariant_of-self : goal.invariant_of-self
 invariant_of-self g c =
+    let is = rw (← c.self.view_is) at c.requires in
     let rows = c.self.inside.locator in
     let limit = c.self.inside.limit in
     let h = c.self.inside.events.items in
     let images = c.self.inside.images.items in
     let e = Release c.args.op c.args.caller in
-    let unreleased = rw (← c.self.view_is) at c.requires in
-    let answer = release_answer rows limit h c.args.op c.args.caller unreleased in
-    let events : c.as_slice.result.now ≡ h ++ e ∷ [] = c.as_slice.ensures.value ∙ c.push_within.ensures.items in
-    let left : (with_items c.self.inside.images c.keep_resident.new.images).items ≡ images_left rows (h ++ e ∷ []) images =
-    with_items_is c.self.inside.images c.keep_resident.new.images (c.keep_resident.auto.images ∙ c.as_mut_slice.ensures.len)
-    ∙ c.keep_resident.ensures
-    ∙ ap (λ (l : List Event). images_left rows l c.as_mut_slice.result.now) events
-    ∙ ap (images_left rows (h ++ e ∷ [])) c.as_mut_slice.ensures.value in
-    core_push g.I.Image.fits rows limit c.self.inside.events c.self.inside.needs c.self.inside.images c.self.invariant e answer refl c.push_within.new.items c.push_within.ensures.items c.push_within.ensures.len c.push_within.ensures.room (with_items c.self.inside.images c.keep_resident.new.images)
-    (subst (λ (l : List (Option _)). HasImages (machine g.I.Image.fits rows limit (h ++ e ∷ []) l)) (sym left) (left_held g.I.Image.fits rows limit h (h ++ e ∷ []) images c.self.invariant.held (λ b is. was_resident rows limit h e b refl is)))
-    (subst (λ (l : List (Option _)). ImagesFit g.I.Image.fits (machine g.I.Image.fits rows limit (h ++ e ∷ []) l)) (sym left) (left_fit g.I.Image.fits rows limit h (h ++ e ∷ []) images c.self.invariant.fitting))
+    let answer = release_answer rows limit h c.args.op c.args.caller is in
+    let legal = extend rows limit h e c.self.invariant.journal.known.legal answer in
+    let needs : c.as_slice-bundles.result.now ≡ needs_of_op c.self.inside.locator c.self.inside.events.items c.args.op =
+    c.as_slice-bundles.ensures ∙ c.take_needs-needs.ensures.taken ∙ ap (λ (l : List (List BundleNo)). needs_at l c.args.op) c.as_mut_slice.ensures.value
+    ∙ needs_are c.self.inside.locator c.self.inside.limit c.self.inside.events.items c.self.invariant.journal.known.legal c.self.inside.needs.items c.self.invariant.holds.are_needs c.args.op is in
+    let once : no_repeats c.as_slice-bundles.result.now ≡ true = ap no_repeats needs ∙ op_needs_once c.self.inside.locator c.self.inside.limit c.self.inside.events.items c.args.op in
+    let ns = c.as_slice-bundles.result.now in
+    let after = holds_release c.self.inside.locator c.self.inside.limit c.self.inside.events.items c.self.inside.needs.items c.self.inside.slots.items c.self.inside.courses.items (waiting_lists c.self.inside.waits.items) c.self.inside.queue c.self.inside.fetched c.self.inside.opened c.self.inside.closed c.self.invariant.holds c.self.invariant.journal.known.sound ns c.args.op c.args.caller legal needs once in
+    let slots : (with_items c.self.inside.slots c.let_go_each.new.slots).items ≡ change_each let_go (map (λ (b : BundleNo). b.0) ns) c.self.inside.slots.items =
+    with_items_is c.self.inside.slots c.let_go_each.new.slots (c.let_go_each.auto.slots ∙ c.as_mut_slice-2.ensures.len) ∙ c.let_go_each.ensures ∙ ap (change_each let_go (map (λ (b : BundleNo). b.0) ns)) c.as_mut_slice-2.ensures.value in
+    let order : c.leave_each.new.queue ≡ record { room = c.self.inside.queue.room; bundles = left_each (passes leaves c.self.inside.slots.items) ns c.self.inside.queue.bundles } =
+    c.leave_each.ensures ∙ ap (λ (l : List Slot). let k : Ordered = record { room = c.self.inside.queue.room; bundles = left_each (passes leaves l) ns c.self.inside.queue.bundles } in k) c.as_slice.ensures.value in
+    let courses : (with_items c.self.inside.courses c.give_back.new.courses).items ≡ change given_back c.args.op.0 c.self.inside.courses.items =
+    with_items_is c.self.inside.courses c.give_back.new.courses (c.give_back.auto.courses ∙ c.as_mut_slice-5.ensures.len) ∙ c.give_back.ensures ∙ ap (change given_back c.args.op.0) c.as_mut_slice-5.ensures.value in
+    let left : (with_items c.self.inside.images c.clear_each.new.images).items ≡ images_left rows (h ++ e ∷ []) images =
+    with_items_is c.self.inside.images c.clear_each.new.images (c.clear_each.auto.images ∙ c.as_mut_slice-3.ensures.len)
+    ∙ c.clear_each.ensures
+    ∙ ap (cleared_each None (passes is_missing c.as_slice-2.result.now) ns) c.as_mut_slice-3.ensures.value
+    ∙ ap (λ (l : List Slot). cleared_each None (passes is_missing l) ns images) (c.as_slice-2.ensures.value ∙ slots)
+    ∙ released_images rows h (h ++ e ∷ []) c.self.inside.slots.items ns images once c.self.invariant.holds.are_slots after.are_slots (images_length g.I.Image.fits rows limit h images c.self.invariant.journal.held) (images_held g.I.Image.fits rows limit h images c.self.invariant.journal.held) in
+    let wanted : (with_items c.self.inside.needs c.take_needs-needs.new.needs).items ≡ set c.self.inside.needs.items c.args.op.0 [] =
+    with_items_is c.self.inside.needs c.take_needs-needs.new.needs (c.take_needs-needs.auto.needs ∙ c.as_mut_slice.ensures.len) ∙ c.take_needs-needs.ensures.left ∙ ap (λ (l : List (List BundleNo)). set l c.args.op.0 []) c.as_mut_slice.ensures.value in
+    let lists : waiting_lists (with_items c.self.inside.waits c.forget_each.new.waits).items ≡ cleared_each [] (passes is_idle (change_each let_go (map (λ (b : BundleNo). b.0) ns) c.self.inside.slots.items)) ns (waiting_lists c.self.inside.waits.items) =
+    ap waiting_lists (with_items_is c.self.inside.waits c.forget_each.new.waits (c.forget_each.auto.waits ∙ c.as_mut_slice-4.ensures.len)) ∙ c.forget_each.ensures
+    ∙ ap (λ (l : List Waiting). cleared_each [] (passes is_idle c.as_slice-3.result.now) ns (waiting_lists l)) c.as_mut_slice-4.ensures.value
+    ∙ ap (λ (l : List Slot). cleared_each [] (passes is_idle l) ns (waiting_lists c.self.inside.waits.items)) (c.as_slice-3.ensures.value ∙ slots) in
+    make_core g.I.Image.fits rows limit c.push_within.new.items (with_items c.self.inside.needs c.take_needs-needs.new.needs) (with_items c.self.inside.images c.clear_each.new.images) (with_items c.self.inside.slots c.let_go_each.new.slots) (with_items c.self.inside.courses c.give_back.new.courses) (with_items c.self.inside.waits c.forget_each.new.waits) c.leave_each.new.queue c.self.inside.fetched (c.self.inside.opened - 1) c.self.inside.closed
+    (journal_push g.I.Image.fits c.self.inside.locator c.self.inside.limit c.self.inside.events c.self.inside.images c.self.invariant.journal e answer c.push_within.new.items c.push_within.ensures.items c.push_within.ensures.len c.push_within.ensures.room (with_items c.self.inside.images c.clear_each.new.images)
+    (subst (λ (l : List (Option _)). HasImages (machine g.I.Image.fits rows limit (h ++ e ∷ []) l)) (sym left) (left_held g.I.Image.fits rows limit h (h ++ e ∷ []) images c.self.invariant.journal.held (λ b now. was_resident rows limit h e b refl now)))
+    (subst (λ (l : List (Option _)). ImagesFit g.I.Image.fits (machine g.I.Image.fits rows limit (h ++ e ∷ []) l)) (sym left) (left_fit g.I.Image.fits rows limit h (h ++ e ∷ []) images c.self.invariant.journal.fitting)))
+    (h ++ e ∷ []) c.push_within.ensures.items (set c.self.inside.needs.items c.args.op.0 []) wanted
+    (change_each let_go (map (λ (b : BundleNo). b.0) ns) c.self.inside.slots.items) slots (change given_back c.args.op.0 c.self.inside.courses.items) courses (cleared_each [] (passes is_idle (change_each let_go (map (λ (b : BundleNo). b.0) ns) c.self.inside.slots.items)) ns (waiting_lists c.self.inside.waits.items)) lists
+    (record { room = c.self.inside.queue.room; bundles = left_each (passes leaves c.self.inside.slots.items) ns c.self.inside.queue.bundles }) order
+    after
+    c.self.invariant.rooms
+
+pub returns : goal.returns
+returns g c =
+    let is = rw (← c.self.view_is) at c.requires in
+    let rows = c.self.inside.locator in
+    let limit = c.self.inside.limit in
+    let h = c.self.inside.events.items in
+    let images = c.self.inside.images.items in
+    let e = Release c.args.op c.args.caller in
+    let answer = release_answer rows limit h c.args.op c.args.caller is in
+    let legal = extend rows limit h e c.self.invariant.journal.known.legal answer in
+    let needs : c.as_slice-bundles.result.now ≡ needs_of_op c.self.inside.locator c.self.inside.events.items c.args.op =
+    c.as_slice-bundles.ensures ∙ c.take_needs-needs.ensures.taken ∙ ap (λ (l : List (List BundleNo)). needs_at l c.args.op) c.as_mut_slice.ensures.value
+    ∙ needs_are c.self.inside.locator c.self.inside.limit c.self.inside.events.items c.self.invariant.journal.known.legal c.self.inside.needs.items c.self.invariant.holds.are_needs c.args.op is in
+    let once : no_repeats c.as_slice-bundles.result.now ≡ true = ap no_repeats needs ∙ op_needs_once c.self.inside.locator c.self.inside.limit c.self.inside.events.items c.args.op in
+    let ns = c.as_slice-bundles.result.now in
+    let after = holds_release c.self.inside.locator c.self.inside.limit c.self.inside.events.items c.self.inside.needs.items c.self.inside.slots.items c.self.inside.courses.items (waiting_lists c.self.inside.waits.items) c.self.inside.queue c.self.inside.fetched c.self.inside.opened c.self.inside.closed c.self.invariant.holds c.self.invariant.journal.known.sound ns c.args.op c.args.caller legal needs once in
+    let slots : (with_items c.self.inside.slots c.let_go_each.new.slots).items ≡ change_each let_go (map (λ (b : BundleNo). b.0) ns) c.self.inside.slots.items =
+    with_items_is c.self.inside.slots c.let_go_each.new.slots (c.let_go_each.auto.slots ∙ c.as_mut_slice-2.ensures.len) ∙ c.let_go_each.ensures ∙ ap (change_each let_go (map (λ (b : BundleNo). b.0) ns)) c.as_mut_slice-2.ensures.value in
+    let left : (with_items c.self.inside.images c.clear_each.new.images).items ≡ images_left rows (h ++ e ∷ []) images =
+    with_items_is c.self.inside.images c.clear_each.new.images (c.clear_each.auto.images ∙ c.as_mut_slice-3.ensures.len)
+    ∙ c.clear_each.ensures
+    ∙ ap (cleared_each None (passes is_missing c.as_slice-2.result.now) ns) c.as_mut_slice-3.ensures.value
+    ∙ ap (λ (l : List Slot). cleared_each None (passes is_missing l) ns images) (c.as_slice-2.ensures.value ∙ slots)
+    ∙ released_images rows h (h ++ e ∷ []) c.self.inside.slots.items ns images once c.self.invariant.holds.are_slots after.are_slots (images_length g.I.Image.fits rows limit h images c.self.invariant.journal.held) (images_held g.I.Image.fits rows limit h images c.self.invariant.journal.held) in
+    rw (← c.self.view_is)
+    (same_machine g.I.Image.fits rows limit c.push_within.new.items.items (h ++ e ∷ []) (with_items c.self.inside.images c.clear_each.new.images).items _ c.push_within.ensures.items left)

@@ -1,0 +1,5 @@
+pub mod Changes
+pub mod Courses
+pub mod Kept
+pub mod Prepare
+pub mod Slots

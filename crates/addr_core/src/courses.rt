@@ -1,0 +1,144 @@
+// How far each operation is: one course an operation, by its number, and the bundles that it needs.
+ghost use Rattle.std.specs.Prelude.{◌≡◌, ◌+◌, [], ◌==◌, slice_get, slice_set, if◌then◌else◌, Ok, Err, unwrap_or};
+ghost use Rattle.addr_history.specs.declared.answers.OpStatus.TheVariants.{Ready, Pending};
+ghost use Rattle.addr_core.specs.within.Changes.{change, change_each};
+ghost use Rattle.addr_core.specs.within.Courses.{needs_at, woken, failed_by, given_back};
+
+use addr_base::{BundleNo, Items, OpId};
+use addr_history::{NoHandle, OpStatus};
+use std::alloc::Global;
+use std::mem;
+
+/// How many of an operation's bundles aren't resident, its first failure, and whether it was released.
+#[derive(Clone, Copy)]
+pub struct Course {
+    pub missing: u32,
+    pub failed: Option<OpStatus>,
+    pub released: bool,
+}
+
+impl Course {
+    /// How far the operation is, if it isn't released.
+    pub fn status(self) -> Result<OpStatus, NoHandle>
+        ensures { result ≡ (if self.released then Err (record {}) else Ok (unwrap_or self.failed (if self.missing == 0 then Ready else Pending))) }
+    {
+        if self.released {
+            return Err(NoHandle);
+        }
+        match self.failed {
+            Some(failed) => Ok(failed),
+            None => if self.missing == 0 {
+                Ok(OpStatus::Ready)
+            } else {
+                Ok(OpStatus::Pending)
+            },
+        }
+    }
+
+    /// One of its bundles came.
+    fn woken(self) -> Course
+        ensures { result ≡ woken self }
+    {
+        Course {
+            missing: self.missing.saturating_sub(1),
+            failed: self.failed,
+            released: self.released,
+        }
+    }
+
+    /// One of its bundles could not be brought. The first such failure stays.
+    fn failed_by(self, status: OpStatus) -> Course
+        ensures { result ≡ failed_by status self }
+    {
+        if self.failed.is_some() {
+            self
+        } else {
+            Course {
+                missing: self.missing,
+                failed: Some(status),
+                released: self.released,
+            }
+        }
+    }
+
+    /// It was released.
+    fn given_back(self) -> Course
+        ensures { result ≡ given_back self }
+    {
+        Course {
+            missing: self.missing,
+            failed: self.failed,
+            released: true,
+        }
+    }
+}
+
+/// The course of an operation, where it was opened.
+pub fn course_at(courses: &[Course], op: OpId) -> Option<Course>
+    ensures { result ≡ slice_get courses.now op.0 }
+{
+    courses.get(op.0 as usize).copied()
+}
+
+#[tactic(auto, using(crate::proofs::Places::change_there, crate::proofs::Places::change_past))]
+fn wake(courses: &mut [Course], op: u32)
+    ensures { courses.new ≡ change woken op courses.old }
+{
+    let place = op as usize;
+    if place < courses.len() {
+        courses[place] = courses[place].woken();
+    }
+}
+
+#[tactic(auto, using(crate::proofs::Places::change_there, crate::proofs::Places::change_past))]
+fn fail(courses: &mut [Course], op: u32, status: OpStatus)
+    ensures { courses.new ≡ change (failed_by status) op courses.old }
+{
+    let place = op as usize;
+    if place < courses.len() {
+        courses[place] = courses[place].failed_by(status);
+    }
+}
+
+/// The operation was released.
+#[tactic(auto, using(crate::proofs::Places::change_there, crate::proofs::Places::change_past))]
+pub fn give_back(courses: &mut [Course], op: u32)
+    ensures { courses.new ≡ change given_back op courses.old }
+{
+    let place = op as usize;
+    if place < courses.len() {
+        courses[place] = courses[place].given_back();
+    }
+}
+
+/// One of the bundles came that these operations wait for.
+pub fn wake_each(courses: &mut [Course], ops: &[u32])
+    ensures { courses.new ≡ change_each woken ops.now courses.old }
+{
+    for op in ops {
+        wake(courses, *op);
+    }
+}
+
+/// One of the bundles failed that these operations wait for.
+pub fn fail_each(courses: &mut [Course], ops: &[u32], status: OpStatus)
+    ensures { courses.new ≡ change_each (failed_by status) ops.now courses.old }
+{
+    for op in ops {
+        fail(courses, *op, status);
+    }
+}
+
+/// The bundles of an operation, which are no longer kept for it; none where it wasn't opened.
+pub fn take_needs(alloc: Global, needs: &mut [Items<BundleNo>], op: OpId) -> Items<BundleNo>
+    ensures taken { result ≡ needs_at needs.old op }
+    ensures left { needs.new ≡ slice_set needs.old op.0 [] }
+{
+    let place = op.0 as usize;
+    let none = Items::new(alloc);
+    if place < needs.len() {
+        mem::replace(&mut needs[place], none)
+    } else {
+        none
+    }
+}
