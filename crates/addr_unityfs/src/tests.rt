@@ -140,9 +140,28 @@ fn other_forms_are_read(rt: HostRuntime) -> Result<(), Fail> {
     Ok(())
 }
 
+/// The worked file with its node twice.
+fn twice(alloc: Global) -> Result<Vec<u8>, AllocError> {
+    let mut front = [0; 98];
+    front.copy_from_slice(&FILE[..98]);
+    front[36] = 145;
+    front[40] = 78;
+    front[44] = 78;
+    front[97] = 2;
+    join(alloc, &front, &FILE[98..DATA], &FILE[98..])
+}
+
 #[test]
 fn faults_are_named(rt: HostRuntime) {
     let alloc = rt.alloc();
+    let repeated = twice(alloc).ok();
+    assert!(rt;
+        repeated.is_some_and(|file| {
+            read_bundle(alloc, &file).err() == Some(FsErr::Path { node: 1 })
+        })
+    );
+    assert!(rt; changed(alloc, 91, &[4]) == Some(FsErr::Blocks { said: 4, found: 3 }));
+    assert!(rt; changed(alloc, 47, &[2]) == Some(FsErr::Short { at: 123 }));
     assert!(rt; changed(alloc, 48, &[0x43]) == Some(FsErr::Compressed { kind: 3 }));
     assert!(rt; changed(alloc, 93, &[3]) == Some(FsErr::Compressed { kind: 3 }));
     assert!(rt; changed(alloc, 48, &[0]) == Some(FsErr::NotCombined));
