@@ -5,11 +5,12 @@ use Rattle.std.specs.Int.{w32, to_be_bytes}
 use Rattle.std.proofs.lemmas.Bool.{le-ltb}
 use Rattle.std.proofs.lemmas.List.{take_at, drop_at}
 use Rattle.addr_unityfs.specs.declared.bundle.NodePlace.{NodePlace}
-use Rattle.addr_unityfs.specs.declared.header.Head.{Head}
+use Rattle.addr_unityfs.specs.Faults.{Head}
 use Rattle.addr_unityfs.specs.Flags.{is_at_end, header_gap, data_gap}
 use Rattle.addr_unityfs.specs.Spelling.{Block, Parts, block, node, info, header, contents, body}
 use Rattle.addr_unityfs.specs.Format.{contents_start, IsFile, bundle_of}
-use Rattle.addr_unityfs.specs.Faults.{place, whole, Sections, cut_sections, head_at, header_fault, sections_at, info_at, data_at, range_fault, bundle_read}
+use Rattle.addr_unityfs.specs.Faults.{place, whole, head_at, header_fault, info_at, range_fault}
+use Rattle.addr_unityfs.proofs.Tailed.{Sections, cut_sections, sections_at, data_at, bundle_read}
 use Rattle.addr_unityfs.proofs.RowLaws.{size_of, AreRows, distinct_rows}
 use Rattle.addr_unityfs.proofs.HeadLaws.{head_again, sound_again}
 use Rattle.addr_unityfs.proofs.SectionLaws.{info_again, data_again}

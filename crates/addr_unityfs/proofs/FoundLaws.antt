@@ -5,11 +5,12 @@ use Rattle.std.specs.Int.{w32, w64, to_be_bytes}
 use Rattle.std.proofs.lemmas.List.{take-append-drop}
 use Rattle.addr_unityfs.specs.declared.bundle.NodePlace.{NodePlace}
 use Rattle.addr_unityfs.specs.declared.bundle.Bundle.{Bundle}
-use Rattle.addr_unityfs.specs.declared.header.Head.{Head}
+use Rattle.addr_unityfs.specs.Faults.{Head}
 use Rattle.addr_unityfs.specs.Flags.{is_at_end, header_gap, data_gap}
 use Rattle.addr_unityfs.specs.Spelling.{Parts, signature, ended, info, header, body}
 use Rattle.addr_unityfs.specs.Format.{IsNode, contents_start, IsFile, IsBundle}
-use Rattle.addr_unityfs.specs.Faults.{Tail, place, whole, past, Sections, unless, head_at, header_fault, sections_at, info_at, data_at, range_fault, bundle_read}
+use Rattle.addr_unityfs.specs.Faults.{Tail, place, whole, past, unless, head_at, header_fault, info_at, range_fault}
+use Rattle.addr_unityfs.proofs.Tailed.{Sections, sections_at, data_at, bundle_read}
 use Rattle.addr_unityfs.proofs.FieldLaws.{IsBytes, IsBytes-drop, bind_ok, unless_ok}
 use Rattle.addr_unityfs.proofs.RowLaws.{rows_fit, rows_distinct}
 use Rattle.addr_unityfs.proofs.HeadLaws.{head_bytes, HeadTaken, head_takes, IsSound, header_sound}

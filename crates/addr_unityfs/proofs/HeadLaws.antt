@@ -4,7 +4,7 @@ use Rattle.std.specs.Int.{w32, w64, to_be_bytes, cast_signed}
 use Rattle.std.proofs.lemmas.Bool.{ltb-false, le-ltb, eqb-true}
 use Rattle.std.proofs.lemmas.List.{take_at, drop_at, take-append-drop}
 use Rattle.std.proofs.lemmas.Slice.Eq.{bytes_eq-Decides}
-use Rattle.addr_unityfs.specs.declared.header.Head.{Head}
+use Rattle.addr_unityfs.specs.Faults.{Head}
 use Rattle.addr_unityfs.specs.declared.error.FsErr.{FsErr}
 use Rattle.addr_unityfs.specs.declared.error.FsErr.TheVariants.{Short, Signature, Version, NotCombined, Compressed, Size, Blocks}
 use Rattle.addr_unityfs.specs.Flags.{kind_of, is_combined}
@@ -22,7 +22,7 @@ pub signature_len : length signature ≡ 8
 unfolding signature
 signature_len = refl
 
-two_tests : {A : Type 0} (short same : Bool) (d e : FsErr) (x y : A) → cond short (Err d) (cond same (Ok x) (Err e)) ≡ Ok y → (same ≡ true) × (x ≡ y)
+pub two_tests : {A : Type 0} (short same : Bool) (d e : FsErr) (x y : A) → cond short (Err d) (cond same (Ok x) (Err e)) ≡ Ok y → (same ≡ true) × (x ≡ y)
 two_tests true same d e x y given = absurd cc
 two_tests false true d e x y given = (refl, cc)
 two_tests false false d e x y given = absurd cc

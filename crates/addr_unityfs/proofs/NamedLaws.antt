@@ -2,10 +2,11 @@
 use Rattle.std.proofs.Common.{◌≡◌, ℕ, ℤ, zero, suc, ◌+◌, Bool, true, false, cond, List, [], ◌∷◌, ◌++◌, length, Option, Some, None, Result, Ok, Err, ap}
 use Rattle.std.specs.Int.{Width, w16, w32, w64}
 use Rattle.addr_unityfs.specs.declared.bundle.NodePlace.{NodePlace}
-use Rattle.addr_unityfs.specs.declared.header.Head.{Head}
+use Rattle.addr_unityfs.specs.Faults.{Head}
 use Rattle.addr_unityfs.specs.declared.error.FsErr.{FsErr}
 use Rattle.addr_unityfs.specs.declared.error.FsErr.TheVariants.{Short, Signature, Version, NotCombined, Compressed, Size, Blocks, NodeRange, Path, NoMemory}
-use Rattle.addr_unityfs.specs.Faults.{◌>>=◌, Tail, whole, number_at, skip_at, cut_at_zero, text_at, signature_at, version_at, head_at, header_fault, unless, sections_at, block_fault, block_at, blocks_at, node_at, nodes_at, info_at, data_at, range_fault, range_fault_at, bundle_read}
+use Rattle.addr_unityfs.specs.Faults.{◌>>=◌, Tail, whole, number_at, skip_at, cut_at_zero, text_at, signature_at, version_at, head_at, header_fault, unless, block_fault, block_at, blocks_at, node_at, nodes_at, info_at, range_fault, range_fault_at}
+use Rattle.addr_unityfs.proofs.Tailed.{sections_at, data_at, bundle_read}
 
 abbrev IsNamed : {A : Type 0} → Result A FsErr → Type 0
 IsNamed r = r ≡ Err NoMemory → ⊥

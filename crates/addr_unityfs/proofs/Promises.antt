@@ -1,5 +1,5 @@
 -- What callers are promised of the bundle that a file is.
-use Rattle.std.proofs.Common.{◌≡◌, ℕ, ◌+◌, ◌^◌, ◌<◌, ◌≤◌, Bool, true, false, cond, List, [], ◌∷◌, ◌++◌, length, All, Result, Ok, Err, sym, ap, subst, ◌∙◌, arith, length-append}
+use Rattle.std.proofs.Common.{◌≡◌, ℕ, ◌+◌, ◌^◌, ◌<◌, ◌≤◌, Bool, true, false, cond, List, [], ◌∷◌, ◌++◌, length, All, Result, Ok, Err, ◌⊎◌, inl, inr, refl, sym, ap, subst, ◌∙◌, arith, length-append}
 use Rattle.std.specs.Prelude.{IfOk, ◌↔◌}
 use Rattle.std.specs.List.{AllByRecursion}
 use Rattle.std.proofs.lemmas.List.Elements.{All-from_recursion}
@@ -10,10 +10,10 @@ use Rattle.addr_unityfs.specs.Flags.{is_at_end}
 use Rattle.addr_unityfs.specs.Spelling.{Parts, info, header, contents, body}
 use Rattle.addr_unityfs.specs.Format.{IsNode, contents_start, IsFile, IsBundle}
 use Rattle.addr_unityfs.specs.Faults.{Answers, bundle_read}
-use Rattle.addr_unityfs.specs.Tails.{Gives}
-use Rattle.addr_unityfs.proofs.FieldLaws.{IsBytes}
-use Rattle.addr_unityfs.proofs.FoundLaws.{is_found}
-use Rattle.addr_unityfs.proofs.AgainLaws.{body_length, is_read}
+use Rattle.addr_unityfs.specs.within.Tails.{Gives}
+use Rattle.addr_unityfs.proofs.FieldLaws.{IsBytes, ok_is}
+use Rattle.addr_unityfs.proofs.ReadLaws.{is_found, is_read}
+use Rattle.addr_unityfs.proofs.AgainLaws.{body_length}
 
 pub is_bundle : (file : List ℕ) (b : Bundle) → IsBytes file → length file < 2 ^ 63 → IsBundle file b ↔ (bundle_read file ≡ Ok b)
 is_bundle file b fits small = (λ held. is_read file held.0 small held.1 ∙ ap Ok (sym held.2), is_found file b fits)
@@ -50,3 +50,24 @@ nodes_inside file b held =
 pub found_inside : (file : List ℕ) (r : Result Bundle FsErr) → IsBytes file → Gives (λ b. b) r (bundle_read file) → IfOk r (λ b. All (λ n. b.start + n.offset + n.size ≤ length file) b.nodes)
 found_inside file (Ok b) fits given = nodes_inside file b (is_found file b fits given)
 found_inside file (Err e) fits given = tt
+
+-- ---- exactly one bundle or one first fault
+
+read_or_fault : (file : List ℕ) (r : Result Bundle FsErr) → IsBytes file → bundle_read file ≡ r → ((b : Bundle) × IsBundle file b) ⊎ ((e : FsErr) × (bundle_read file ≡ Err e))
+read_or_fault file (Ok b) fits read = inl (b, is_found file b fits read)
+read_or_fault file (Err e) fits read = inr (e, read)
+
+pub bundle_or_fault : (file : List ℕ) → IsBytes file → ((b : Bundle) × IsBundle file b) ⊎ ((e : FsErr) × (bundle_read file ≡ Err e))
+bundle_or_fault file fits = read_or_fault file (bundle_read file) fits refl
+
+read_of : (file : List ℕ) (b : Bundle) → length file < 2 ^ 63 → IsBundle file b → bundle_read file ≡ Ok b
+read_of file b small held = is_read file held.0 small held.1 ∙ ap Ok (sym held.2)
+
+ok_err : (b : Bundle) (e : FsErr) → Ok b ≡ Err e → ⊥
+ok_err b e same = absurd cc
+
+pub not_both : (file : List ℕ) (b : Bundle) (e : FsErr) → length file < 2 ^ 63 → IsBundle file b → bundle_read file ≡ Err e → ⊥
+not_both file b e small held fault = ok_err b e (sym (read_of file b small held) ∙ fault)
+
+pub one_bundle : (file : List ℕ) (a b : Bundle) → length file < 2 ^ 63 → IsBundle file a → IsBundle file b → a ≡ b
+one_bundle file a b small first second = ok_is a b (sym (read_of file a small first) ∙ read_of file b small second)

@@ -5,13 +5,14 @@ use Rattle.std.specs.Int.{w32, to_be_bytes}
 use Rattle.std.proofs.lemmas.Bool.{ltb-false, le-ltb}
 use Rattle.std.proofs.lemmas.List.{take-append-drop}
 use Rattle.addr_unityfs.specs.declared.bundle.NodePlace.{NodePlace}
-use Rattle.addr_unityfs.specs.declared.header.Head.{Head}
+use Rattle.addr_unityfs.specs.Faults.{Head}
 use Rattle.addr_unityfs.specs.declared.error.FsErr.{FsErr}
 use Rattle.addr_unityfs.specs.declared.error.FsErr.TheVariants.{Short, Blocks}
 use Rattle.addr_unityfs.specs.Flags.{is_at_end, header_gap, data_gap}
 use Rattle.addr_unityfs.specs.Spelling.{Block, block, node}
 use Rattle.addr_unityfs.specs.Format.{IsBlock}
-use Rattle.addr_unityfs.specs.Faults.{Tail, place, past, Sections, cut_sections, sections_at, number_at, skip_at, blocks_at, nodes_at, info_at, data_at}
+use Rattle.addr_unityfs.specs.Faults.{Tail, place, past, number_at, skip_at, blocks_at, nodes_at, info_at}
+use Rattle.addr_unityfs.proofs.Tailed.{Sections, cut_sections, sections_at, data_at}
 use Rattle.addr_unityfs.proofs.FieldLaws.{IsBytes, IsBytes-drop, IsBytes-take, bind_ok, guard_ok, ok_is, Takes-then, wide32, number_takes, number_again, skip_takes, skip_again}
 use Rattle.addr_unityfs.proofs.RowLaws.{size_of, blocks_take, blocks_again, AreRows, nodes_take, nodes_again}
 

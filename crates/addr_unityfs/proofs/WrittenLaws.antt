@@ -8,14 +8,16 @@ use Rattle.std.proofs.lemmas.List.Folds.{sum_by-replicate}
 use Rattle.std.proofs.lemmas.List.Sums.{sum_by-cons, sum_by-append}
 use Rattle.addr_unityfs.specs.declared.bundle.NodeOut.{NodeOut}
 use Rattle.addr_unityfs.specs.declared.bundle.NodePlace.{NodePlace}
+use Rattle.addr_unityfs.specs.declared.bundle.NodeSize.{NodeSize}
+use Rattle.addr_unityfs.specs.Sizes.{size_of, data_size, file_size}
 use Rattle.addr_unityfs.specs.declared.bundle.Bundle.{Bundle}
 use Rattle.addr_unityfs.specs.Flags.{to_sixteen, header_gap, data_gap}
 use Rattle.addr_unityfs.specs.Spelling.{Block, Parts, info, header_of, header, body, file_of}
 use Rattle.addr_unityfs.specs.Format.{NoZero, IsBlock, IsNode, IsFile, bundle_of}
-use Rattle.addr_unityfs.specs.Written.{placed, plain_block, blocks_of, data_of, unpadded, written_parts, written_len, written, CanWrite, node_read, ReadsBack}
-use Rattle.addr_unityfs.specs.Lengths.{row_len, bytes_len, IsTyped}
+use Rattle.addr_unityfs.specs.Written.{placed, plain_block, blocks_of, data_of, unpadded, written_parts, written_len, written, CanWrite, IsTyped, node_read, ReadsBack}
+use Rattle.addr_unityfs.specs.within.Lengths.{row_len, bytes_len}
 use Rattle.addr_unityfs.proofs.Regroup.{after_four}
-use Rattle.addr_unityfs.proofs.AgainLaws.{is_read}
+use Rattle.addr_unityfs.proofs.ReadLaws.{is_read}
 use Rattle.addr_unityfs.proofs.WrittenLengths.{lengths}
 use Rattle.addr_unityfs.proofs.WrittenRows.{length-placed}
 
@@ -96,7 +98,7 @@ distinct_paths ns apart i j d less within same =
 no_zero_text : NoZero (codes "5.x.x")
 no_zero_text = All-from_recursion (λ b. b ≢ 0) (codes "5.x.x") ((λ e. cc), ((λ e. cc), ((λ e. cc), ((λ e. cc), ((λ e. cc), tt)))))
 
-same_len : (player : List ℕ) (nodes : List NodeOut) → length (written player nodes) ≡ written_len player nodes
+pub same_len : (player : List ℕ) (nodes : List NodeOut) → length (written player nodes) ≡ written_len player nodes
 unfolding written written_len
 same_len player nodes =
     let p : Parts = written_parts player nodes in
@@ -152,3 +154,18 @@ reads_back player nodes can typed =
     let whole_file : file ≡ front ++ (data_of nodes ++ []) = f.bytes ∙ sym (append_assoc head (p.padding ++ info p) (data_of nodes ++ []) ∙ ap (λ x. head ++ x) (append_assoc p.padding (info p) (data_of nodes ++ []))) in
     let there : drop (b.start + 0) file ≡ data_of nodes ++ [] = ap (drop (b.start + 0)) whole_file ∙ drop_at front (data_of nodes ++ []) (b.start + 0) front_len in
     (b, is_read file p (omega (arith, same_len player nodes, can.small)) f, nodes_read file b 0 nodes [] there)
+
+-- ---- its size, by lengths alone
+
+sizes_sum : (f : NodeSize → ℕ) (nodes : List NodeOut) → sum_by f (map size_of nodes) ≡ sum_by (λ n. f (size_of n)) nodes
+sizes_sum f [] = refl
+sizes_sum f (n ∷ ns) = sum_by-cons f (size_of n) (map size_of ns) ∙ (ap (λ k. f (size_of n) + k) (sizes_sum f ns) ∙ sym (sum_by-cons (λ m. f (size_of m)) n ns))
+
+pub written_size : (player : List ℕ) (nodes : List NodeOut) → length (written player nodes) ≡ file_size (length player) (map size_of nodes)
+unfolding file_size
+written_size player nodes =
+    let l = lengths player nodes in
+    let bytes : data_size (map size_of nodes) ≡ length (data_of nodes) = sizes_sum (λ n. n.bytes) nodes ∙ sym l.payload_is in
+    let rows : sum_by (λ n. 21 + n.path) (map size_of nodes) ≡ sum_by row_len nodes = sizes_sum (λ n. 21 + n.path) nodes in
+    let count : length (blocks_of (data_size (map size_of nodes))) ≡ length (blocks_of (length (data_of nodes))) = ap (λ n. length (blocks_of n)) bytes in
+    same_len player nodes ∙ (l.file_is ∙ omega (arith, bytes, rows, count, l.payload_is))

@@ -5,7 +5,6 @@ use Rattle.std.specs.Int.{Width, w16, w32, w64, byte_len, from_be_bytes, cast_si
 use Rattle.std.specs.Str.{bytes_eq, is_utf8}
 use Rattle.addr_unityfs.specs.declared.bundle.NodePlace.{NodePlace}
 use Rattle.addr_unityfs.specs.declared.bundle.Bundle.{Bundle}
-use Rattle.addr_unityfs.specs.declared.header.Head.{Head}
 use Rattle.addr_unityfs.specs.declared.error.FsErr.{FsErr}
 use Rattle.addr_unityfs.specs.declared.error.FsErr.TheVariants.{Short, Signature, Version, NotCombined, Compressed, Size, Blocks, NodeRange, Path, NoMemory}
 use Rattle.addr_unityfs.specs.Flags.{kind_of, is_combined, is_at_end, header_gap, data_gap}
@@ -16,6 +15,20 @@ infixl 10 ◌>>=◌
 abbrev pub ◌>>=◌ : {A B : Type 0} → Result A FsErr → (A → Result B FsErr) → Result B FsErr
 (Ok x) >>= f = f x
 (Err e) >>= f = Err e
+
+-- the numbers of a header; its two texts are passed over
+pub record Head : Type 0 where
+  pub version : ℕ
+  pub size : ℕ
+  pub stored : ℕ
+  pub plain : ℕ
+  pub flags : ℕ
+
+-- the place of the blocks info, and the places from which and to which the data and its padding may reach
+pub record Layout : Type 0 where
+  pub info : ℕ
+  pub from : ℕ
+  pub to : ℕ
 
 -- what is still to be read, with the place in the file or table where it ends
 pub record Tail : Type 0 where
@@ -77,6 +90,12 @@ head_at c = do
   flags ← number_at w32 plain.1
   Ok (record { version = version.0; size = size.0; stored = stored.0; plain = plain.0; flags = flags.0 }, flags.1)
 
+-- the numbers of the header that bytes begin with, and the place where it ends
+unfoldable pub header_read : List ℕ → Result (Head × ℕ) FsErr
+header_read bytes = do
+  head ← head_at (whole bytes)
+  Ok (head.0, place head.1)
+
 -- the tests on the header of a file of so many bytes
 unfoldable pub header_fault : ℕ → Head → Option FsErr
 header_fault len h =
@@ -90,21 +109,33 @@ abbrev pub unless : {A : Type 0} → Option FsErr → A → Result A FsErr
 unless None x = Ok x
 unless (Some e) x = Err e
 
--- what follows the padded header: the blocks info, and what stands before or behind it
-pub record Sections : Type 0 where
-  pub info : Tail
-  pub contents : Tail
+-- the two sections behind the padded header in a file of so many bytes, by the place of the blocks info
+abbrev pub laid : Bool → ℕ → ℕ → ℕ → Layout
+laid true len stored at = record { info = len - stored; from = at; to = len - stored }
+laid false len stored at = record { info = at; from = at + stored; to = len }
 
--- the two sections of what follows the padded header, by the place of the blocks info
-abbrev pub cut_sections : Bool → ℕ → Tail → Sections
-cut_sections true len c = record { info = past (length c.rest - len) c; contents = upto (length c.rest - len) c }
-cut_sections false len c = record { info = upto len c; contents = past len c }
+-- the sections of a file of so many bytes, whose header ends at a place
+unfoldable pub layout_at : ℕ → Head → ℕ → Result Layout FsErr
+layout_at len h at =
+    let gap = header_gap h.version at in
+    if nat_lt (len - at) (gap + h.stored) then Err (Short len)
+    else Ok (laid (is_at_end h.flags) len h.stored (at + gap))
 
-unfoldable pub sections_at : Head → Tail → Result Sections FsErr
-sections_at h c =
-    let gap = header_gap h.version (place c) in
-    if nat_lt (length c.rest) (gap + h.stored) then Err (Short c.end)
-    else Ok (cut_sections (is_at_end h.flags) h.stored (past gap c))
+-- the tests on the header, and the sections
+unfoldable pub layout_read : ℕ → Head → ℕ → Result Layout FsErr
+layout_read len h at = do
+  tested ← unless (header_fault len h) at
+  layout_at len h tested
+
+-- the header with its tests, and the sections: all that is read of a file before anything is kept of it
+unfoldable pub front_read : List ℕ → Result Layout FsErr
+front_read file = do
+  head ← header_read file
+  layout_read (length file) head.0 head.1
+
+-- the bytes of a file from a place on, so many of them
+abbrev pub part : ℕ → ℕ → List ℕ → Tail
+part at n file = record { end = at + n; rest = take n (drop at file) }
 
 unfoldable pub block_fault : ℕ → ℕ → ℕ → Option FsErr
 block_fault plain stored flags =
@@ -161,12 +192,12 @@ info_at c = do
   Ok (sum.0, places)
 
 -- where so many bytes of data begin, behind their padding, in a file of len bytes
-unfoldable pub data_at : ℕ → ℕ → ℕ → Tail → Result ℕ FsErr
-data_at len flags sum c =
-    let gap = data_gap flags (place c) in
-    if nat_lt (length c.rest) gap then Err (Short len)
-    else if nat_lt (length c.rest - gap) sum then Err (Blocks sum (length c.rest - gap))
-    else Ok (place c + gap)
+unfoldable pub data_at : ℕ → ℕ → ℕ → Layout → Result ℕ FsErr
+data_at len flags sum l =
+    let gap = data_gap flags l.from in
+    if nat_lt (l.to - l.from) gap then Err (Short len)
+    else if nat_lt (l.to - l.from - gap) sum then Err (Blocks sum (l.to - l.from - gap))
+    else Ok (l.from + gap)
 
 -- whether a node passes the end of so many bytes of data; a negative number is read as one from 2^63 on, and does
 abbrev pub is_outside : ℕ → NodePlace → Bool
@@ -180,15 +211,19 @@ range_fault_at (Some i) = Some (NodeRange i)
 unfoldable pub range_fault : ℕ → List NodePlace → Option FsErr
 range_fault room nodes = range_fault_at (position (is_outside room) nodes)
 
+-- what follows the header: the blocks info, the data and the ranges, in a file of len bytes of which the blocks info is in
+unfoldable pub behind_read : ℕ → Head → Layout → List ℕ → Result Bundle FsErr
+behind_read len h l file = do
+  info ← info_at (part l.info h.stored file)
+  start ← data_at len h.flags info.0 l
+  unless (range_fault info.0 info.1) (record { version = h.version; start = start; nodes = info.1 })
+
 -- what a file is read as: its bundle, or its first fault
 unfoldable pub bundle_read : List ℕ → Result Bundle FsErr
 bundle_read file = do
-  head ← head_at (whole file)
-  tested ← unless (header_fault (length file) head.0) head.1
-  sections ← sections_at head.0 tested
-  info ← info_at sections.info
-  start ← data_at (length file) head.0.flags info.0 sections.contents
-  unless (range_fault info.0 info.1) (record { version = head.0.version; start = start; nodes = info.1 })
+  head ← header_read file
+  layout ← layout_read (length file) head.0 head.1
+  behind_read (length file) head.0 layout file
 
 -- the answer of a call is what reading gives, unless memory was refused
 abbrev pub Answers : {A : Type 0} → Result A FsErr → Result A FsErr → Type 0

@@ -2,7 +2,8 @@ pub mod Flags
 pub mod Spelling
 pub mod Format
 pub mod Faults
-pub mod Paths
-pub mod Tails
 pub mod Written
-pub mod Lengths
+pub mod Sizes
+pub mod Early
+pub mod Arriving
+pub mod within

@@ -1,8 +1,8 @@
 // One field at a time: each reader tests that its field is there, and hands on the cursor behind it.
 ghost use Rattle.std.specs.Prelude.{◌≡◌, ◌+◌, ◌≤◌, ◌<◌, length, take, drop, position, ◌==◌, IfSome};
 ghost use Rattle.std.specs.Int.{w16, w32, w64};
-ghost use Rattle.addr_unityfs.specs.Faults.{whole, place, past, upto, number_at, skip_at, text_at};
-ghost use Rattle.addr_unityfs.specs.Tails.{tail, Reads};
+ghost use Rattle.addr_unityfs.specs.Faults.{whole, part, place, past, upto, number_at, skip_at, text_at};
+ghost use Rattle.addr_unityfs.specs.within.Tails.{tail, Reads};
 ghost use Rattle.addr_unityfs.specs.declared.error.FsErr.TheVariants.{Short};
 
 use crate::cursor::Cursor;
@@ -14,6 +14,19 @@ pub fn cursor_of(file: &[u8]) -> Cursor<'_>
     Cursor {
         end: file.len() as u64,
         rest: file,
+    }
+}
+
+/// The bytes of a file from a place on, so many of them.
+pub fn part_of(file: &[u8], at: usize, len: usize) -> Cursor<'_>
+    requires { at + len ≤ length file.now }
+    ensures { tail result ≡ part at len file.now }
+{
+    let (_, behind) = file.split_at(at);
+    let (rest, _) = behind.split_at(len);
+    Cursor {
+        end: at as u64 + len as u64,
+        rest,
     }
 }
 
@@ -132,7 +145,7 @@ impl<'a> Cursor<'a> {
     }
 }
 
-fn first_zero(bytes: &[u8]) -> Option<usize>
+pub fn first_zero(bytes: &[u8]) -> Option<usize>
     ensures place { result ≡ position (λ b. b == 0) bytes.now }
     ensures inside { IfSome result (λ n. n < length bytes.now) }
 {

@@ -1,7 +1,8 @@
 // The header: its fields, and the tests on them.
-ghost use Rattle.std.specs.Prelude.{◌≡◌, length, OnErr};
-ghost use Rattle.addr_unityfs.specs.Faults.{whole, signature_at, version_at, head_at, header_fault};
-ghost use Rattle.addr_unityfs.specs.Tails.{tail, Reads};
+ghost use Rattle.std.specs.Prelude.{◌≡◌, ◌≤◌, length, IfOk};
+ghost use Rattle.addr_unityfs.specs.Faults.{whole, header_read, signature_at, version_at, head_at, header_fault};
+ghost use Rattle.addr_unityfs.specs.within.Stages.{start_at, in_text};
+ghost use Rattle.addr_unityfs.specs.within.Tails.{tail, head, Reads};
 
 use crate::cursor::Cursor;
 use crate::error::FsErr;
@@ -49,8 +50,8 @@ fn version_of(rest: Cursor<'_>) -> Result<(u32, Cursor<'_>), FsErr>
 
 /// The header's fields, and what follows the header.
 #[tactic(auto, unfolding(crate::specs::Faults::head_at))]
-pub fn head_of(file: &[u8]) -> Result<(Head, Cursor<'_>), FsErr>
-    ensures { Reads (λ x. (x.0, tail x.1)) result (head_at (whole file.now)) }
+fn head_of(file: &[u8]) -> Result<(Head, Cursor<'_>), FsErr>
+    ensures { Reads (λ x. (head x.0, tail x.1)) result (head_at (whole file.now)) }
 {
     let rest = signed(cursor_of(file))?;
     let (version, rest) = version_of(rest)?;
@@ -72,28 +73,61 @@ pub fn head_of(file: &[u8]) -> Result<(Head, Cursor<'_>), FsErr>
     ))
 }
 
+#[tactic(auto, unfolding(crate::specs::within::Stages::start_at))]
+fn start_of(bytes: Cursor<'_>) -> Result<Cursor<'_>, FsErr>
+    ensures { Reads tail result (start_at (tail bytes.entry)) }
+{
+    let rest = signed(bytes)?;
+    let (_, rest) = version_of(rest)?;
+    Ok(rest)
+}
+
+/// Whether bytes end within one of the header's texts.
+#[tactic(auto, unfolding(crate::specs::within::Stages::in_text, crate::specs::within::Stages::texts_at))]
+pub fn in_text(bytes: &[u8]) -> bool
+    ensures { result ≡ in_text bytes.now }
+{
+    let Ok(rest) = start_of(cursor_of(bytes)) else {
+        return false;
+    };
+    match rest.text() {
+        Ok((_, rest)) => rest.text().is_err(),
+        Err(_) => true,
+    }
+}
+
+/// The header's numbers, and the place where it ends.
+#[tactic(auto, using(crate::proofs::PastLaws::head_inside), unfolding(crate::specs::Faults::header_read))]
+pub fn header_of(bytes: &[u8]) -> Result<(Head, u64), FsErr>
+    ensures value { Reads (λ x. (head x.0, x.1)) result (header_read bytes.now) }
+    ensures inside { IfOk result (λ x. x.1 ≤ length bytes.now) }
+{
+    let (head, rest) = head_of(bytes)?;
+    Ok((head, rest.place()))
+}
+
 /// The tests on the header of a file of so many bytes.
 #[tactic(auto, unfolding(crate::specs::Faults::header_fault))]
-pub fn header_fault(len: u64, head: Head) -> Option<FsErr>
-    ensures { result ≡ header_fault len head }
+pub fn header_fault(len: u64, found: Head) -> Option<FsErr>
+    ensures { result ≡ header_fault len (head found) }
 {
-    if head.size != len {
+    if found.size != len {
         return Some(FsErr::Size {
-            said: head.size.cast_signed(),
+            said: found.size.cast_signed(),
             found: len,
         });
     }
-    if !is_combined(head.flags) {
+    if !is_combined(found.flags) {
         return Some(FsErr::NotCombined);
     }
-    let kind = kind_of(head.flags);
+    let kind = kind_of(found.flags);
     if kind != 0 {
         return Some(FsErr::Compressed { kind });
     }
-    if head.stored != head.plain {
+    if found.stored != found.plain {
         return Some(FsErr::Blocks {
-            said: head.stored as u64,
-            found: head.plain as u64,
+            said: found.stored as u64,
+            found: found.plain as u64,
         });
     }
     None

@@ -1,16 +1,18 @@
 // Reading a bundle file: one pass over its header and blocks info. No node's bytes are looked at or copied.
-ghost use Rattle.std.specs.Prelude.{◌≡◌, ◌≢◌, ◌^◌, ◌<◌, ◌+◌, ◌≤◌, ◌↔◌, Ok, IfOk, IfSome, All, length, position};
-ghost use Rattle.addr_unityfs.specs.Faults.{is_outside, range_fault, bundle_read, Answers};
+ghost use Rattle.std.specs.Prelude.{◌≡◌, ◌≢◌, ◌^◌, ◌<◌, ◌+◌, ◌≤◌, ◌↔◌, Ok, Err, IfOk, IfSome, All, length, position};
+ghost use Rattle.addr_unityfs.specs.Faults.{is_outside, range_fault, behind_read, front_read, bundle_read, Answers};
 ghost use Rattle.addr_unityfs.specs.Format.{IsBundle};
-ghost use Rattle.addr_unityfs.specs.Tails.{Gives};
+ghost use Rattle.addr_unityfs.specs.within.Tails.{head, layout, Gives};
 ghost use Rattle.addr_unityfs.specs.declared.bundle.Bundle.{Bundle};
+ghost use Rattle.addr_unityfs.specs.declared.error.FsErr.{FsErr};
 ghost use Rattle.addr_unityfs.specs.declared.error.FsErr.TheVariants.{NoMemory};
 
 use crate::blocks_info::info_of;
 use crate::bundle::{Bundle, NodePlace};
 use crate::error::FsErr;
-use crate::header::{head_of, header_fault};
-use crate::sections::{data_start, sections_of};
+use crate::fields::part_of;
+use crate::header::{Head, header_of};
+use crate::sections::{Layout, data_start, layout_of};
 use addr_base::Items;
 use std::alloc::Global;
 
@@ -38,26 +40,41 @@ fn range_fault(room: u64, nodes: &[NodePlace]) -> Option<FsErr>
     }
 }
 
-#[tactic(auto, unfolding(crate::specs::Faults::bundle_read))]
-fn bundle_of(alloc: Global, file: &[u8]) -> Result<Bundle, FsErr>
-    ensures { Gives (λ b. b) result (bundle_read file.now) }
+/// What follows the header, in a file of `len` bytes of which the blocks info is in.
+#[tactic(auto, unfolding(crate::specs::Faults::behind_read))]
+pub fn behind_of(
+    alloc: Global,
+    len: u64,
+    header: Head,
+    places: Layout,
+    file: &[u8],
+) -> Result<Bundle, FsErr>
+    requires info { places.info + header.stored ≤ length file.now }
+    requires data { (places.from ≤ places.to) × (places.to ≤ len) }
+    ensures { Gives (λ b. b) result (behind_read len (head header) (layout places) file.now) }
 {
-    let len = file.len() as u64;
-    let (head, rest) = head_of(file)?;
-    if let Some(fault) = header_fault(len, head) {
-        return Err(fault);
-    }
-    let sections = sections_of(head, rest)?;
-    let (sum, nodes) = info_of(alloc, sections.info)?;
-    let start = data_start(len, head.flags, sum, sections.contents)?;
+    let info = part_of(file, places.info as usize, header.stored as usize);
+    let (sum, nodes) = info_of(alloc, info)?;
+    let start = data_start(len, header.flags, sum, places)?;
     if let Some(fault) = range_fault(sum, &nodes) {
         return Err(fault);
     }
     Ok(Bundle {
-        version: head.version,
+        version: header.version,
         start,
         nodes: Items::from_vec(nodes),
     })
+}
+
+#[tactic(auto, unfolding(crate::specs::Faults::bundle_read, crate::specs::Faults::front_read))]
+fn bundle_of(alloc: Global, file: &[u8]) -> Result<Bundle, FsErr>
+    ensures read { Gives (λ b. b) result (bundle_read file.now) }
+    ensures front { (e : FsErr) → front_read file.now ≡ Err e → result ≡ Err e }
+{
+    let len = file.len() as u64;
+    let (head, end) = header_of(file)?;
+    let layout = layout_of(len, head, end)?;
+    behind_of(alloc, len, head, layout, file)
 }
 
 /// The bundle that the file is. Takes memory for the nodes and their paths alone, and only for rows that are there.
@@ -67,6 +84,8 @@ pub fn read_bundle(alloc: Global, file: &[u8]) -> Result<Bundle, FsErr>
     ensures inside { IfOk result (λ b. All (λ n. b.start + n.offset + n.size ≤ length file.now) b.nodes) }
     // Unless memory was refused, the answer is what the file is read as: its bundle or its first fault.
     ensures exact { Answers result (bundle_read file.now) }
+    // Memory is asked for behind the header and the sections only, so that their faults are always told.
+    ensures front { (e : FsErr) → front_read file.now ≡ Err e → result ≡ Err e }
     ensures only { (b : Bundle) → IsBundle file.now b → Answers result (Ok b) }
     // So each file is one bundle or has a first fault, and never both; and no fault is want of memory.
     ensures named { bundle_read file.now ≢ Err NoMemory }

@@ -1,59 +1,77 @@
-// Where the blocks info and the data lie behind the header: the info stands first, or at the end of the file.
-ghost use Rattle.std.specs.Prelude.{◌≡◌, ◌≤◌, length};
-ghost use Rattle.addr_unityfs.specs.Faults.{cut_sections, sections_at, data_at};
-ghost use Rattle.addr_unityfs.specs.Tails.{tail, sections, Reads};
+// Where the blocks info and the data lie behind the header, as places counted from the front: the info stands first, or
+// at the end of the file. The file's length is given, so that it also serves a file that is still arriving.
+ghost use Rattle.std.specs.Prelude.{◌≡◌, ◌≤◌, ◌+◌, length, IfOk};
+ghost use Rattle.addr_unityfs.specs.Faults.{laid, layout_at, layout_read, data_at};
+ghost use Rattle.addr_unityfs.specs.within.Tails.{head, layout, Reads};
 
-use crate::cursor::Cursor;
 use crate::error::FsErr;
 use crate::flags::{data_gap, header_gap, is_at_end};
-use crate::header::Head;
+use crate::header::{Head, header_fault};
 
-/// The blocks info, and what stands before or behind it.
+/// The place of the blocks info, and the places from which and to which the data and its padding may reach.
 #[derive(Clone, Copy)]
-pub struct Sections<'a> {
-    pub info: Cursor<'a>,
-    pub contents: Cursor<'a>,
+pub struct Layout {
+    pub info: u64,
+    pub from: u64,
+    pub to: u64,
 }
 
-/// The sections of what follows the header.
-#[tactic(auto, unfolding(crate::specs::Faults::sections_at))]
-pub fn sections_of(head: Head, after: Cursor<'_>) -> Result<Sections<'_>, FsErr>
-    ensures { Reads sections result (sections_at head (tail after.entry)) }
+/// The sections of a file of `len` bytes whose header ends at a place.
+#[tactic(auto, unfolding(crate::specs::Faults::layout_at))]
+fn layout_at(len: u64, found: Head, at: u64) -> Result<Layout, FsErr>
+    requires { at ≤ len }
+    ensures value { Reads layout result (layout_at len (head found) at) }
+    ensures inside { IfOk result (λ l. l.info + found.stored ≤ len) }
+    ensures ordered { IfOk result (λ l. (l.from ≤ l.to) × (l.to ≤ len)) }
 {
-    let gap = header_gap(head.version, after.place());
-    let info_len = head.stored as usize;
-    if after.rest.len() < gap + info_len {
-        return Err(FsErr::Short { at: after.end });
+    let gap = header_gap(found.version, at) as u64;
+    let stored = found.stored as u64;
+    if len - at < gap + stored {
+        return Err(FsErr::Short { at: len });
     }
-    let (_, body) = after.split(gap);
-    Ok(cut(is_at_end(head.flags), info_len, body))
-}
-
-fn cut(is_at_end: bool, info_len: usize, body: Cursor<'_>) -> Sections<'_>
-    requires { info_len ≤ length body.rest.now }
-    ensures { sections result ≡ cut_sections is_at_end info_len (tail body.entry) }
-{
-    if is_at_end {
-        let (contents, info) = body.split(body.rest.len() - info_len);
-        Sections { info, contents }
+    if is_at_end(found.flags) {
+        Ok(Layout {
+            info: len - stored,
+            from: at + gap,
+            to: len - stored,
+        })
     } else {
-        let (info, contents) = body.split(info_len);
-        Sections { info, contents }
+        Ok(Layout {
+            info: at + gap,
+            from: at + gap + stored,
+            to: len,
+        })
     }
+}
+
+/// The sections of a file of `len` bytes, behind the tests on its header.
+#[tactic(auto, unfolding(crate::specs::Faults::layout_read))]
+pub fn layout_of(len: u64, found: Head, at: u64) -> Result<Layout, FsErr>
+    requires { at ≤ len }
+    ensures value { Reads layout result (layout_read len (head found) at) }
+    ensures inside { IfOk result (λ l. l.info + found.stored ≤ len) }
+    ensures ordered { IfOk result (λ l. (l.from ≤ l.to) × (l.to ≤ len)) }
+{
+    if let Some(fault) = header_fault(len, found) {
+        return Err(fault);
+    }
+    layout_at(len, found, at)
 }
 
 /// Where so many bytes of data begin in a file of `len` bytes, if they are there.
 #[tactic(auto, unfolding(crate::specs::Faults::data_at))]
-pub fn data_start(len: u64, flags: u32, sum: u64, contents: Cursor<'_>) -> Result<u64, FsErr>
-    ensures { result ≡ data_at len flags sum (tail contents.entry) }
+pub fn data_start(len: u64, flags: u32, sum: u64, places: Layout) -> Result<u64, FsErr>
+    requires { (places.from ≤ places.to) × (places.to ≤ len) }
+    ensures { result ≡ data_at len flags sum (layout places) }
 {
-    let gap = data_gap(flags, contents.place());
-    if contents.rest.len() < gap {
+    let gap = data_gap(flags, places.from) as u64;
+    let room = places.to - places.from;
+    if room < gap {
         return Err(FsErr::Short { at: len });
     }
-    let found = (contents.rest.len() - gap) as u64;
+    let found = room - gap;
     if found < sum {
         return Err(FsErr::Blocks { said: sum, found });
     }
-    Ok(contents.place() + gap as u64)
+    Ok(places.from + gap)
 }

@@ -86,6 +86,16 @@ fn the_worked_file_is_written(rt: HostRuntime) {
 }
 
 #[test]
+fn sizes_are_told_by_lengths(rt: HostRuntime) {
+    let node = |path, bytes| NodeSize { path, bytes };
+    assert!(rt; bundle_size(10, &[node(1, 3)]) == 123);
+    assert!(rt; bundle_size(10, &[node(1, 262149)]) == 120 + 20 + 262149);
+    assert!(rt; bundle_size(0, &[]) == 48 + 24);
+    assert!(rt; bundle_size(10, &[node(1, u64::MAX), node(1, u64::MAX)]) == u64::MAX);
+    assert!(rt; bundle_size(u64::MAX, &[node(u64::MAX, 1 << 63)]) == u64::MAX);
+}
+
+#[test]
 fn data_is_cut_into_blocks(rt: HostRuntime) -> Result<(), Fail> {
     let bytes = vec![in rt.alloc(); 7u8; 262149]?;
     let file = write_one(rt.alloc(), &bytes).ok().ok_or("memory")?;
@@ -130,9 +140,28 @@ fn other_forms_are_read(rt: HostRuntime) -> Result<(), Fail> {
     Ok(())
 }
 
+/// The worked file with its node twice.
+fn twice(alloc: Global) -> Result<Vec<u8>, AllocError> {
+    let mut front = [0; 98];
+    front.copy_from_slice(&FILE[..98]);
+    front[36] = 145;
+    front[40] = 78;
+    front[44] = 78;
+    front[97] = 2;
+    join(alloc, &front, &FILE[98..DATA], &FILE[98..])
+}
+
 #[test]
 fn faults_are_named(rt: HostRuntime) {
     let alloc = rt.alloc();
+    let repeated = twice(alloc).ok();
+    assert!(rt;
+        repeated.is_some_and(|file| {
+            read_bundle(alloc, &file).err() == Some(FsErr::Path { node: 1 })
+        })
+    );
+    assert!(rt; changed(alloc, 91, &[4]) == Some(FsErr::Blocks { said: 4, found: 3 }));
+    assert!(rt; changed(alloc, 47, &[2]) == Some(FsErr::Short { at: 123 }));
     assert!(rt; changed(alloc, 48, &[0x43]) == Some(FsErr::Compressed { kind: 3 }));
     assert!(rt; changed(alloc, 93, &[3]) == Some(FsErr::Compressed { kind: 3 }));
     assert!(rt; changed(alloc, 48, &[0]) == Some(FsErr::NotCombined));
@@ -231,4 +260,113 @@ fn prefixes_and_changed_bytes_are_answered(rt: HostRuntime) {
             );
         }
     }
+}
+
+/// A reader of a file of `total` bytes that was fed these bytes in pieces of a size.
+fn fed(alloc: Global, total: u64, bytes: &[u8], size: usize) -> Option<BundleReader>
+    requires { 0 < size }
+{
+    let mut reader = BundleReader::begin(alloc, total);
+    for piece in bytes.chunks(size) {
+        reader.feed(piece).ok()?;
+    }
+    Some(reader)
+}
+
+/// The fault of a file that came whole, with the digest of these bytes.
+fn fault_of(reader: BundleReader, bytes: &[u8]) -> Option<FsErr> {
+    match reader.finish() {
+        Ok(Arrived::File { digest, read }) if digest == addr_base::digest(bytes) => read.err(),
+        _ => None,
+    }
+}
+
+fn is_size(reader: BundleReader, count: u64) -> bool {
+    reader.finish().is_ok_and(|arrived| matches!(arrived, Arrived::Size { got } if got == count))
+}
+
+/// Whether the first bytes of the worked file, as a file of their own, have the fault that they are read with, and are
+/// no fault but a size of the worked file's length.
+fn front_is_told(alloc: Global, len: usize, size: usize) -> Option<bool>
+    requires { (len ≤ 123) × (0 < size) }
+{
+    let front = &FILE[..len];
+    let fault = read_bundle(alloc, front).err();
+    let whole = fed(alloc, len as u64, front, size)?;
+    let is_told = whole.early() == fault && fault_of(whole, front) == fault;
+    let cut = fed(alloc, 123, front, size)?;
+    Some(is_told && cut.early() == None && is_size(cut, len as u64))
+}
+
+#[test]
+fn a_version_is_told_at_its_last_byte(rt: HostRuntime) -> Result<(), Fail> {
+    let alloc = rt.alloc();
+    let mut file = FILE;
+    file[11] = 9;
+    let mut reader = BundleReader::begin(alloc, 123);
+    for n in 0..123 {
+        let told = if n < 12 {
+            None
+        } else {
+            Some(FsErr::Version(9))
+        };
+        assert!(rt; reader.early() == told);
+        assert!(rt; reader.held() == if n < 12 { n as u64 } else { 12 });
+        reader.feed(&file[n..n + 1]).ok().ok_or("memory")?;
+    }
+    assert!(rt; reader.held() == 12);
+    assert!(rt; fault_of(reader, &file) == Some(FsErr::Version(9)));
+    let longer = fed(alloc, 124, &file, 1).ok_or("memory")?;
+    assert!(rt; is_size(longer, 123));
+    Ok(())
+}
+
+#[test]
+fn pieces_do_not_matter(rt: HostRuntime) -> Result<(), Fail> {
+    let alloc = rt.alloc();
+    for size in [1, 7, 4096] {
+        let reader = fed(alloc, 123, &FILE, size).ok_or("memory")?;
+        assert!(rt; reader.early() == None && reader.held() == 123);
+        let Some(Arrived::File { digest, read }) = reader.finish().ok() else {
+            return Err(Fail::from("a file"));
+        };
+        assert!(rt; digest == addr_base::digest(&FILE));
+        let (bytes, bundle) = read.ok().ok_or("a bundle")?;
+        assert!(rt; bytes.as_slice() == FILE.as_slice());
+        assert!(rt; is_example(Ok(bundle), 7, 120));
+        for len in 0..FILE.len() {
+            assert!(rt; front_is_told(alloc, len, size) == Some(true), "{len}");
+        }
+    }
+    Ok(())
+}
+
+#[test]
+fn counts_are_told_when_the_info_is_in(rt: HostRuntime) -> Result<(), Fail> {
+    let alloc = rt.alloc();
+    for size in [1, 7, 4096] {
+        for (at, fault) in [
+            (80, FsErr::Blocks { said: 0, found: 1 }),
+            (94, FsErr::Short { at: 120 }),
+        ] {
+            let mut file = FILE;
+            file[at..at + 4].copy_from_slice(&[0xff; 4]);
+            let before = fed(alloc, 123, &file[..119], size).ok_or("memory")?;
+            assert!(rt; before.early() == None);
+            let told = fed(alloc, 123, &file[..120], size).ok_or("memory")?;
+            assert!(rt; told.early() == Some(fault) && told.held() == 120);
+            let whole = fed(alloc, 123, &file, size).ok_or("memory")?;
+            assert!(rt; whole.early() == Some(fault) && fault_of(whole, &file) == Some(fault));
+        }
+    }
+    let data = b"\0\0\0\0\0\0\0\0\0\0\0\0\0\0\0xyz";
+    let file = join(alloc, &header(7, 123, [0, 0xc0]), data, &FILE[INFO..DATA])?;
+    let at_end = fed(alloc, 123, &file, 7).ok_or("memory")?;
+    assert!(rt; at_end.early() == None);
+    assert!(rt;
+        at_end.finish().is_ok_and(|arrived| {
+            matches!(arrived, Arrived::File { read: Ok((_, bundle)), .. } if bundle.start == 64)
+        })
+    );
+    Ok(())
 }

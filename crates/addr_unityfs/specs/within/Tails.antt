@@ -3,14 +3,18 @@ use Rattle.std.specs.Prelude.{◌≡◌, Result, Ok, Err, ◌⊎◌}
 use Rattle.addr_unityfs.specs.declared.cursor.Cursor.{Cursor}
 use Rattle.addr_unityfs.specs.declared.error.FsErr.{FsErr}
 use Rattle.addr_unityfs.specs.declared.error.FsErr.TheVariants.{NoMemory}
-use Rattle.addr_unityfs.specs.declared.sections.Sections as code
-use Rattle.addr_unityfs.specs.Faults.{Tail, Sections}
+use Rattle.addr_unityfs.specs.declared.header as headers
+use Rattle.addr_unityfs.specs.declared.sections as places
+use Rattle.addr_unityfs.specs.Faults.{Tail, Head, Layout}
 
 abbrev pub tail : Cursor → Tail
 tail c = record { end = c.end; rest = c.rest.now }
 
-abbrev pub sections : code.Sections → Sections
-sections s = record { info = tail s.info; contents = tail s.contents }
+abbrev pub head : headers.Head.Head → Head
+head h = record { version = h.version; size = h.size; stored = h.stored; plain = h.plain; flags = h.flags }
+
+abbrev pub layout : places.Layout.Layout → Layout
+layout l = record { info = l.info; from = l.from; to = l.to }
 
 -- what a call returned, seen by view, is what reading gives
 abbrev pub Reads : {X Y : Type 0} → (X → Y) → Result X FsErr → Result Y FsErr → Type 0

@@ -1,0 +1,6 @@
+-- Helpers of the code and of its proofs, which no clause of a public call reaches.
+pub mod Kept
+pub mod Lengths
+pub mod Paths
+pub mod Stages
+pub mod Tails
