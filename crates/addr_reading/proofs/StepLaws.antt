@@ -1,5 +1,5 @@
 -- Steps of reading taken apart, no want of memory among their faults, and the one answer that reading gives.
-use Rattle.std.proofs.Common.{◌≡◌, ◌≢◌, inl, inr, Option, Some, None, Result, Ok, Err, refl, ap}
+use Rattle.std.proofs.Common.{◌≡◌, ◌≢◌, inl, inr, Bool, true, false, cond, Option, Some, None, Result, Ok, Err, refl, ap}
 use Rattle.addr_reading.specs.Steps.{◌>>=◌, or_fault}
 use Rattle.addr_reading.specs.Gives.{IsNamed, IsDecided}
 
@@ -13,10 +13,34 @@ pub or_fault_ok : {A E : Type 0} (fault : E) (o : Option A) (x : A) → or_fault
 or_fault_ok fault (Some y) x is = let same : y ≡ x = cc in ap Some same
 or_fault_ok fault None x is = absurd cc
 
+abbrev done : {A : Type 0} (E : Type 0) → A → Result A E
+done E x = Ok x
+
+-- the value of a last step
+pub ok_is : {A E : Type 0} (x y : A) → done E x ≡ done E y → x ≡ y
+ok_is x y e = cc
+
+-- a choice that gave a value
+pub chosen : {A E : Type 0} (test : Bool) (fault : E) (x y : A) → cond test (Ok x) (Err fault) ≡ Ok y → (test ≡ true) × (x ≡ y)
+chosen true fault x y e = (refl, cc)
+chosen false fault x y e = absurd cc
+
+-- a step behind a test that would have failed
+pub guarded : {A E : Type 0} (test : Bool) (fault : E) (r : Result A E) (y : A) → cond test (Err fault) r ≡ Ok y → (test ≡ false) × (r ≡ Ok y)
+guarded true fault r y e = absurd cc
+guarded false fault r y e = (refl, e)
+
 -- ---- no fault is want of memory
 
 pub ok_named : {A E : Type 0} (no_memory : E) (x : A) → IsNamed no_memory (Ok x)
 ok_named no_memory x same = absurd cc
+
+pub err_named : {A E : Type 0} (no_memory fault : E) → fault ≢ no_memory → IsNamed {A = A} no_memory (Err fault)
+err_named no_memory fault other same = let memory : fault ≡ no_memory = cc in other memory
+
+pub if_named : {A E : Type 0} (no_memory : E) (test : Bool) (r s : Result A E) → IsNamed no_memory r → IsNamed no_memory s → IsNamed no_memory (cond test r s)
+if_named no_memory true r s first second = first
+if_named no_memory false r s first second = second
 
 pub fault_named : {A E : Type 0} (no_memory fault : E) (o : Option A) → fault ≢ no_memory → IsNamed no_memory (or_fault fault o)
 fault_named no_memory fault (Some x) other same = absurd cc

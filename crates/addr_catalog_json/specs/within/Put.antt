@@ -1,27 +1,28 @@
 -- The members of a document put one after the other into an object, as they are written.
 use Rattle.std.specs.Prelude.{codes, Option, Some, None}
 use Rattle.std.specs.Option.{IfSome}
-use Rattle.serde_json.specs.Data.{string, array, object, no_items, Members, no_members, put}
+use Rattle.serde_json.specs.Data.{array, object, no_items, Members, no_members, put}
 use Rattle.addr_base.specs.Ids.{Are16Bytes}
 use Rattle.addr_base.specs.declared.ids.Digest.{Digest}
 use Rattle.addr_catalog_json.specs.declared.document.Lists.{Lists}
 use Rattle.addr_catalog_json.specs.declared.document.Strings.{Strings}
-use Rattle.addr_catalog_json.specs.Written.{digest_tree, texts_tree, kinds_tree}
+use Rattle.addr_json.specs.Trees.{digest_tree, texts_tree, with_text}
+use Rattle.addr_catalog_json.specs.Written.{kinds_tree}
 
 -- the members that are the same in each document
 unfoldable pub with_fixed : Members → Members
 with_fixed ms =
     put (codes "m_SceneProviderData") (object no_members)
     (put (codes "m_ResourceProviderData") (array no_items)
-    (put (codes "m_LocatorId") (string (codes "AddressablesMainContentCatalog"))
+    (with_text (codes "m_LocatorId") (codes "AddressablesMainContentCatalog")
     (put (codes "m_InstanceProviderData") (object no_members) ms)))
 
 unfoldable pub with_strings : Strings → Members → Members
 with_strings s ms =
-    put (codes "m_KeyDataString") (string s.key)
-    (put (codes "m_ExtraDataString") (string s.extra)
-    (put (codes "m_EntryDataString") (string s.entry)
-    (put (codes "m_BucketDataString") (string s.bucket) ms)))
+    with_text (codes "m_KeyDataString") s.key
+    (with_text (codes "m_ExtraDataString") s.extra
+    (with_text (codes "m_EntryDataString") s.entry
+    (with_text (codes "m_BucketDataString") s.bucket ms)))
 
 unfoldable pub with_lists : Lists → Members → Members
 with_lists l ms =
