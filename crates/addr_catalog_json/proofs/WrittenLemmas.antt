@@ -5,7 +5,7 @@ use Rattle.addr_base.specs.declared.ids.Digest.{Digest}
 use Rattle.addr_catalog_json.specs.declared.document.Document.{Document}
 use Rattle.addr_catalog_json.specs.declared.document.Lists.{Lists}
 use Rattle.addr_catalog_json.specs.declared.document.Strings.{Strings}
-use Rattle.addr_catalog_json.specs.Put.{with_fixed, with_strings, with_lists, with_digest}
+use Rattle.addr_catalog_json.specs.within.Put.{with_fixed, with_strings, with_lists, with_digest}
 use Rattle.addr_catalog_json.specs.Written.{document_tree}
 
 by_state : (lists : Lists) (strings : Strings) (state : Option Digest) → object (with_digest state (with_lists lists (with_strings strings (with_fixed no_members)))) ≡ document_tree (record { lists = lists; strings = strings; state = state })

@@ -1,22 +1,17 @@
 -- The document of a catalogue: the members of its JSON object, or the first that is faulty, by its number. Members that have
 -- no number here are passed over.
-use Rattle.std.specs.Prelude.{codes, ℕ, List, [], Option, Some, None, Result, Ok, if◌then◌else◌, option_and_then, option_map}
-use Rattle.std.specs.Str.{is_utf8}
+use Rattle.std.specs.Prelude.{codes, ℕ, List, [], Option, Some, None, Result, Ok, option_and_then, option_map}
 use Rattle.serde_json.specs.Data.{Data, Members}
 use Rattle.serde_json.specs.Find.{as_object, as_str, get}
-use Rattle.serde_json.specs.Read.{read}
 use Rattle.addr_base.specs.declared.ids.Digest.{Digest}
+use Rattle.addr_reading.specs.Steps.{◌>>=◌, or_fault}
+use Rattle.addr_json.specs.Members.{tree_of, required, optional, list_of, digest_in}
 use Rattle.addr_catalog_json.specs.declared.document.Document.{Document}
 use Rattle.addr_catalog_json.specs.declared.document.Strings.{Strings}
 use Rattle.addr_catalog_json.specs.declared.error.DocErr.{DocErr}
 use Rattle.addr_catalog_json.specs.declared.error.DocErr.TheVariants.{Json, Member}
-use Rattle.addr_catalog_json.specs.Members.{required, optional, list_of, digest_in}
-use Rattle.addr_catalog_json.specs.Steps.{◌>>=◌, or_fault}
 
--- the value of bytes in JSON, where they are UTF-8
-abbrev pub tree_of : List ℕ → Option Data
-tree_of bytes = if is_utf8 bytes then read bytes else None
-
+-- texts
 abbrev pub texts_of : Data → Option (List (List ℕ))
 texts_of d = list_of as_str d
 
@@ -24,6 +19,7 @@ texts_of d = list_of as_str d
 abbrev pub kind_of : Data → Option (List ℕ)
 kind_of d = option_and_then as_str (get (codes "m_ClassName") d)
 
+-- the digest of a content state
 abbrev pub state_of : Data → Option (Option Digest)
 state_of d = option_map Some (digest_in d)
 

@@ -1,6 +1,5 @@
-pub mod Steps
 pub mod Members
 pub mod Document
 pub mod Options
 pub mod Written
-pub mod Put
+pub mod within

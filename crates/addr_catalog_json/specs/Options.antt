@@ -5,7 +5,8 @@ use Rattle.serde_json.specs.Find.{as_object, as_str}
 use Rattle.serde_json.specs.Read.{read}
 use Rattle.addr_base.specs.declared.ids.Digest.{Digest}
 use Rattle.addr_catalog_json.specs.declared.options.BundleOptions.{BundleOptions}
-use Rattle.addr_catalog_json.specs.Members.{required, hash_of, size_of}
+use Rattle.addr_json.specs.Members.{required, size_of}
+use Rattle.addr_catalog_json.specs.Members.{hash_of}
 
 abbrev pub options_from : Option Digest → Option (List ℕ) → Option ℕ → Option BundleOptions
 options_from (Some digest) (Some name) (Some size) = Some (record { digest = digest; name = name; size = size })

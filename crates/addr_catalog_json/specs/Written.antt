@@ -4,17 +4,10 @@ use Rattle.std.specs.Prelude.{codes, ℕ, List, [], map, Option, Some, None}
 use Rattle.serde_json.specs.Data.{Data, number, string, array, object, unsigned, no_items, Members, no_members, member}
 use Rattle.serde_json.specs.View.{items_of}
 use Rattle.serde_json.specs.Written.{compact_text}
-use Rattle.addr_base.specs.Ids.{hex_of}
 use Rattle.addr_base.specs.declared.ids.Digest.{Digest}
+use Rattle.addr_json.specs.Trees.{digest_tree, texts_tree}
 use Rattle.addr_catalog_json.specs.declared.document.Document.{Document}
 use Rattle.addr_catalog_json.specs.declared.options.BundleOptions.{BundleOptions}
-
--- the digits of a digest
-abbrev pub digest_tree : Digest → Data
-digest_tree digest = string (hex_of digest.0)
-
-abbrev pub texts_tree : List (List ℕ) → Data
-texts_tree texts = array (items_of (map string texts))
 
 -- a resource type by its class; the assembly is not told
 abbrev pub kind_tree : List ℕ → Data

@@ -1,16 +1,17 @@
 // The document of a catalogue, and its members in the order of their numbers.
-ghost use Rattle.std.specs.Prelude.{◌≡◌, ◌≢◌, [], codes, IfOk, Err, Some, None};
-ghost use Rattle.std.specs.Option.{option_map, option_copied};
-ghost use Rattle.serde_json.specs.Find.{as_str, as_object};
+ghost use Rattle.std.specs.Prelude.{◌≡◌, ◌≢◌, [], codes, IfOk, Err, None};
+ghost use Rattle.std.specs.Option.{option_copied};
 ghost use Rattle.serde_json.specs.View.{view, items_view, members_view};
 ghost use Rattle.addr_catalog_json.specs.declared.error.DocErr.TheVariants as faults;
-ghost use Rattle.addr_catalog_json.specs.Members.{all_items, list_of, required, optional};
-ghost use Rattle.addr_catalog_json.specs.Document.{tree_of, kind_of, state_of, texts_of, strings_read, members_read, document_read};
-ghost use Rattle.addr_catalog_json.specs.Steps.{Gives, or_fault};
+ghost use Rattle.addr_reading.specs.Gives.{Gives};
+ghost use Rattle.addr_reading.specs.Steps.{or_fault};
+ghost use Rattle.addr_json.specs.Members.{all_items, list_of, required, optional, tree_of};
+ghost use Rattle.addr_catalog_json.specs.Document.{kind_of, state_of, texts_of, strings_read, members_read, document_read};
 
 use crate::error::DocErr;
-use crate::members::{as_digest, as_texts, member, text_at};
+use crate::members::{text_member, texts_member};
 use addr_base::{Digest, Items, NoMemory, Text};
+use addr_json::{as_digest, as_texts, member, read_tree};
 use serde_json::{Map, Value};
 use std::alloc::Global;
 
@@ -39,40 +40,18 @@ pub struct Document {
     pub state: Option<Digest>,
 }
 
-/// The value of bytes in JSON.
-#[tactic(auto, using(crate::proofs::TreeLemmas::tree_good, crate::proofs::TreeLemmas::tree_bad))]
-fn read_tree(alloc: Global, bytes: &[u8]) -> Result<Value, DocErr>
-    ensures { Gives view result (or_fault faults.Json (tree_of bytes.now)) }
+fn tree_of(alloc: Global, bytes: &[u8]) -> Result<Value, DocErr>
+    ensures { Gives faults.NoMemory view result (or_fault faults.Json (tree_of bytes.now)) }
 {
-    match Value::from_slice(alloc, bytes) {
-        Ok(tree) => Ok(tree),
-        Err(error) => {
-            if error.is_memory() {
-                Err(DocErr::NoMemory)
-            } else {
-                Err(DocErr::Json)
-            }
-        }
-    }
-}
-
-fn text_member(
-    alloc: Global,
-    object: &Map<String, Value>,
-    key: &str,
-    which: u8,
-) -> Result<Text, DocErr>
-    ensures { Gives (λ t. t) result (or_fault (faults.Member which) (required as_str key.now (members_view object.now.entries))) }
-{
-    match text_at(object, key) {
-        Some(text) => Ok(Text::copy_of(alloc, text)?),
-        None => Err(DocErr::Member { which }),
+    match read_tree(alloc, bytes)? {
+        Some(tree) => Ok(tree),
+        None => Err(DocErr::Json),
     }
 }
 
 #[tactic(auto, unfolding(crate::specs::Document::strings_read))]
 fn read_strings(alloc: Global, object: &Map<String, Value>) -> Result<Strings, DocErr>
-    ensures { Gives (λ s. s) result (strings_read (members_view object.now.entries)) }
+    ensures { Gives faults.NoMemory (λ s. s) result (strings_read (members_view object.now.entries)) }
 {
     let key = text_member(alloc, object, "m_KeyDataString", 3)?;
     let bucket = text_member(alloc, object, "m_BucketDataString", 4)?;
@@ -84,23 +63,6 @@ fn read_strings(alloc: Global, object: &Map<String, Value>) -> Result<Strings, D
         entry,
         extra,
     })
-}
-
-fn texts_member(
-    alloc: Global,
-    object: &Map<String, Value>,
-    key: &str,
-    which: u8,
-) -> Result<Items<Text>, DocErr>
-    ensures { Gives (λ t. t) result (or_fault (faults.Member which) (required texts_of key.now (members_view object.now.entries))) }
-{
-    let Some(value) = member(object, key) else {
-        return Err(DocErr::Member { which });
-    };
-    match as_texts(alloc, value)? {
-        Some(texts) => Ok(texts),
-        None => Err(DocErr::Member { which }),
-    }
 }
 
 /// The class of a resource type.
@@ -137,7 +99,7 @@ fn as_kinds(alloc: Global, value: &Value) -> Result<Option<Items<Text>>, NoMemor
 }
 
 fn kinds_member(alloc: Global, object: &Map<String, Value>) -> Result<Items<Text>, DocErr>
-    ensures { Gives (λ t. t) result (or_fault (faults.Member 7) (required (list_of kind_of) (codes "m_resourceTypes") (members_view object.now.entries))) }
+    ensures { Gives faults.NoMemory (λ t. t) result (or_fault (faults.Member 7) (required (list_of kind_of) (codes "m_resourceTypes") (members_view object.now.entries))) }
 {
     let Some(value) = member(object, "m_resourceTypes") else {
         return Err(DocErr::Member { which: 7 });
@@ -149,7 +111,7 @@ fn kinds_member(alloc: Global, object: &Map<String, Value>) -> Result<Items<Text
 }
 
 fn prefixes_member(alloc: Global, object: &Map<String, Value>) -> Result<Items<Text>, DocErr>
-    ensures { Gives (λ t. t) result (or_fault (faults.Member 8) (optional texts_of [] (codes "m_InternalIdPrefixes") (members_view object.now.entries))) }
+    ensures { Gives faults.NoMemory (λ t. t) result (or_fault (faults.Member 8) (optional texts_of [] (codes "m_InternalIdPrefixes") (members_view object.now.entries))) }
 {
     let Some(value) = member(object, "m_InternalIdPrefixes") else {
         return Ok(Items::new(alloc));
@@ -161,7 +123,7 @@ fn prefixes_member(alloc: Global, object: &Map<String, Value>) -> Result<Items<T
 }
 
 fn state_member(object: &Map<String, Value>) -> Result<Option<Digest>, DocErr>
-    ensures { Gives (λ s. s) result (or_fault (faults.Member 9) (optional state_of None (codes "m_ContentState") (members_view object.now.entries))) }
+    ensures { Gives faults.NoMemory (λ s. s) result (or_fault (faults.Member 9) (optional state_of None (codes "m_ContentState") (members_view object.now.entries))) }
 {
     let Some(value) = member(object, "m_ContentState") else {
         return Ok(None);
@@ -175,7 +137,7 @@ fn state_member(object: &Map<String, Value>) -> Result<Option<Digest>, DocErr>
 /// The members of the document that a value is.
 #[tactic(auto, unfolding(crate::specs::Document::members_read))]
 fn read_members(alloc: Global, tree: &Value) -> Result<Document, DocErr>
-    ensures { Gives (λ d. d) result (members_read (view tree.now)) }
+    ensures { Gives faults.NoMemory (λ d. d) result (members_read (view tree.now)) }
 {
     let Some(object) = tree.as_object() else {
         return Err(DocErr::Member { which: 0 });
@@ -203,10 +165,10 @@ fn read_members(alloc: Global, tree: &Value) -> Result<Document, DocErr>
 #[tactic(auto, unfolding(crate::specs::Document::document_read))]
 pub fn read_document(alloc: Global, bytes: &[u8]) -> Result<Document, DocErr>
     // Unless memory was refused, the answer is what the bytes are read as: their document or its first fault.
-    ensures exact { Gives (λ document. document) result (document_read bytes.now) }
+    ensures exact { Gives faults.NoMemory (λ document. document) result (document_read bytes.now) }
     // No fault is want of memory.
     ensures named { document_read bytes.now ≢ Err faults.NoMemory }
 {
-    let tree = read_tree(alloc, bytes)?;
+    let tree = tree_of(alloc, bytes)?;
     read_members(alloc, &tree)
 }

@@ -9,6 +9,7 @@
 
 mod document;
 mod error;
+mod laws;
 mod members;
 mod options;
 #[cfg(test)]
@@ -17,5 +18,6 @@ mod writer;
 
 pub use document::{Document, Lists, Strings, read_document};
 pub use error::DocErr;
+pub use laws::document_laws;
 pub use options::{BundleOptions, read_options};
 pub use writer::{write_document, write_options};

@@ -1,11 +1,13 @@
 // The options of a bundle, from their text.
 ghost use Rattle.std.specs.Prelude.{◌≡◌, IfOk};
 ghost use Rattle.serde_json.specs.View.{members_view};
-ghost use Rattle.addr_catalog_json.specs.Members.{required, hash_of, size_of};
+ghost use Rattle.addr_json.specs.Members.{required};
+ghost use Rattle.addr_catalog_json.specs.Members.{hash_of};
 ghost use Rattle.addr_catalog_json.specs.Options.{options_in, options_read};
 
-use crate::members::{as_hash, member, text_at};
+use crate::members::as_hash;
 use addr_base::{Digest, NoMemory, Text};
+use addr_json::{member, size_at, text_at};
 use serde_json::{Map, Value};
 use std::alloc::Global;
 
@@ -22,15 +24,6 @@ fn hash_at(object: &Map<String, Value>, key: &str) -> Option<Digest>
 {
     match member(object, key) {
         Some(value) => as_hash(value),
-        None => None,
-    }
-}
-
-fn size_at(object: &Map<String, Value>, key: &str) -> Option<u64>
-    ensures { result ≡ required size_of key.now (members_view object.now.entries) }
-{
-    match member(object, key) {
-        Some(value) => value.as_u64(),
         None => None,
     }
 }

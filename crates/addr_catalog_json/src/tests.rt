@@ -1,6 +1,6 @@
 // The texts of a bundle's options and of a small document, written out by hand from docs/formats/catalogue.md: proofs say that
 // what is written is the text of the definitions, and these that it is the format's, with the members in byte order of their
-// names; and that each call succeeds with ample memory.
+// names; that each call succeeds with ample memory; and a row for each fault.
 use super::*;
 use addr_base::{Digest, Items, NoMemory, Text};
 use std::alloc::Global;
@@ -90,5 +90,55 @@ fn a_document_is_written_and_read(rt: HostRuntime) -> Result<(), Fail> {
     assert!(rt; bytes.as_slice() == DOCUMENT.as_bytes());
     let read = read_document(rt.alloc(), DOCUMENT.as_bytes()).ok();
     assert!(rt; read.is_some_and(|document| is_the_document(&document)));
+    Ok(())
+}
+
+fn fault_of(alloc: Global, text: &str) -> Option<DocErr> {
+    read_document(alloc, text.as_bytes()).err()
+}
+
+/// In each row a piece of the document's text is another; the member of that number is then faulty, and no want of memory
+/// is told in its place.
+#[test]
+fn each_member_has_its_fault(rt: HostRuntime) -> Result<(), Fail> {
+    assert!(rt; fault_of(rt.alloc(), "{") == Some(DocErr::Json));
+    assert!(rt; fault_of(rt.alloc(), "[]") == Some(DocErr::Member { which: 0 }));
+    for (piece, other, which) in [
+        ("\"m_ProviderIds\":[]", "\"m_ProviderIds\":null", 1),
+        ("[\"i\",\"j\"]", "[\"i\",1]", 2),
+        ("\"m_KeyDataString\"", "\"m_KeyDataStrings\"", 3),
+        ("\"b\"", "1", 4),
+        ("\"e\"", "[]", 5),
+        ("\"x\"", "{}", 6),
+        ("\"Mesh\"", "1", 7),
+        ("[\"p\"]", "\"p\"", 8),
+        ("0d0eff", "0d0efF", 9),
+        ("0d0eff", "0d0e", 9),
+    ] {
+        let text = DOCUMENT.replace(rt.alloc(), piece, other)?;
+        assert!(rt;
+            fault_of(rt.alloc(), text.as_str()) == Some(DocErr::Member { which }),
+            "{other}"
+        );
+    }
+    Ok(())
+}
+
+/// Options that lack a member, or have one outside its values, are none, and no want of memory.
+#[test]
+fn faulty_options_are_none(rt: HostRuntime) -> Result<(), Fail> {
+    for (piece, other) in [
+        ("\"m_Hash\"", "\"m_hash\""),
+        ("0d0eff", "0d0efg"),
+        ("\"a\"", "1"),
+        ("4294967296", "1.0"),
+        ("{", "["),
+    ] {
+        let text = OPTIONS.replace(rt.alloc(), piece, other)?;
+        let read = read_options(rt.alloc(), text.as_str())
+            .ok()
+            .ok_or("memory")?;
+        assert!(rt; read.is_none(), "{other}");
+    }
     Ok(())
 }

@@ -1,34 +1,19 @@
 // A document and the options of a bundle as texts. The members of an object are put in groups; the map keeps them in the
 // order of their names.
-ghost use Rattle.std.specs.Prelude.{◌≡◌, [], codes, map, Ok, Some, IfOk, OnOk, string_bytes};
-ghost use Rattle.serde_json.specs.Data.{string, array, object, no_items, no_members, put as with_member};
-ghost use Rattle.serde_json.specs.View.{view, items_of, items_view, members_view};
-ghost use Rattle.addr_base.specs.Ids.{Are16Bytes, hex_of};
+ghost use Rattle.std.specs.Prelude.{◌≡◌, Ok, Some, IfOk, OnOk};
+ghost use Rattle.serde_json.specs.View.{view, members_view};
+ghost use Rattle.addr_base.specs.Ids.{Are16Bytes};
 ghost use Rattle.addr_catalog_json.specs.Document.{document_read};
 ghost use Rattle.addr_catalog_json.specs.Options.{options_read};
-ghost use Rattle.addr_catalog_json.specs.Written.{digest_tree, texts_tree, kind_tree, kinds_tree, document_tree, document_text, options_tree, options_text};
-ghost use Rattle.addr_catalog_json.specs.Put.{with_fixed, with_strings, with_lists, with_digest, IsWellStated};
+ghost use Rattle.addr_catalog_json.specs.Written.{kind_tree, kinds_tree, document_tree, document_text, options_tree, options_text};
+ghost use Rattle.addr_catalog_json.specs.within.Put.{with_fixed, with_strings, with_lists, with_digest, IsWellStated};
 
 use crate::document::{Document, Lists, Strings};
 use crate::options::BundleOptions;
 use addr_base::{Digest, NoMemory, Text};
+use addr_json::{digest_tree, put_text, texts_tree};
 use serde_json::{Map, Value, json, put};
 use std::alloc::Global;
-
-/// What the type of a digest says; nothing runs.
-fn sixteen_bytes(digest: Digest)
-    ensures { Are16Bytes digest.0 }
-{}
-
-fn texts_tree(alloc: Global, texts: &[Text]) -> Result<Value, NoMemory>
-    ensures { IfOk result (λ value. view value ≡ texts_tree texts.now) }
-{
-    let mut values = Vec::new(alloc);
-    for text in texts {
-        values.push(Value::try_from_str(alloc, text.as_str())?)?;
-    }
-    Ok(Value::Array(values))
-}
 
 fn kind_tree(alloc: Global, kind: &str) -> Result<Value, NoMemory>
     ensures { IfOk result (λ value. view value ≡ kind_tree kind.now) }
@@ -46,17 +31,8 @@ fn kinds_tree(alloc: Global, kinds: &[Text]) -> Result<Value, NoMemory>
     Ok(Value::Array(values))
 }
 
-fn digest_tree(alloc: Global, digest: Digest) -> Result<Value, NoMemory>
-    ensures tree { IfOk result (λ value. view value ≡ digest_tree digest) }
-    ensures sixteen { Are16Bytes digest.0 }
-{
-    sixteen_bytes(digest);
-    let digits = format!(in alloc; "{digest}")?;
-    Ok(Value::String(digits))
-}
-
 /// Puts the members that are the same in each document.
-#[tactic(auto, unfolding(crate::specs::Put::with_fixed))]
+#[tactic(auto, unfolding(crate::specs::within::Put::with_fixed))]
 fn put_fixed(alloc: Global, members: &mut Map<String, Value>) -> Result<(), NoMemory>
     ensures { OnOk result (members_view members.new.entries ≡ with_fixed (members_view members.old.entries)) }
 {
@@ -66,11 +42,11 @@ fn put_fixed(alloc: Global, members: &mut Map<String, Value>) -> Result<(), NoMe
         "m_InstanceProviderData",
         Value::Object(Map::new(alloc)),
     )?;
-    put(
-        members,
+    put_text(
         alloc,
+        members,
         "m_LocatorId",
-        Value::try_from_str(alloc, "AddressablesMainContentCatalog")?,
+        "AddressablesMainContentCatalog",
     )?;
     put(
         members,
@@ -87,24 +63,7 @@ fn put_fixed(alloc: Global, members: &mut Map<String, Value>) -> Result<(), NoMe
     Ok(())
 }
 
-fn put_text(
-    alloc: Global,
-    members: &mut Map<String, Value>,
-    key: &str,
-    text: &Text,
-) -> Result<(), NoMemory>
-    ensures { OnOk result (members_view members.new.entries ≡ with_member key.now (string text.now) (members_view members.old.entries)) }
-{
-    put(
-        members,
-        alloc,
-        key,
-        Value::try_from_str(alloc, text.as_str())?,
-    )?;
-    Ok(())
-}
-
-#[tactic(auto, unfolding(crate::specs::Put::with_strings))]
+#[tactic(auto, unfolding(crate::specs::within::Put::with_strings))]
 fn put_strings(
     alloc: Global,
     members: &mut Map<String, Value>,
@@ -112,14 +71,19 @@ fn put_strings(
 ) -> Result<(), NoMemory>
     ensures { OnOk result (members_view members.new.entries ≡ with_strings strings.now (members_view members.old.entries)) }
 {
-    put_text(alloc, members, "m_BucketDataString", &strings.bucket)?;
-    put_text(alloc, members, "m_EntryDataString", &strings.entry)?;
-    put_text(alloc, members, "m_ExtraDataString", &strings.extra)?;
-    put_text(alloc, members, "m_KeyDataString", &strings.key)?;
+    put_text(
+        alloc,
+        members,
+        "m_BucketDataString",
+        strings.bucket.as_str(),
+    )?;
+    put_text(alloc, members, "m_EntryDataString", strings.entry.as_str())?;
+    put_text(alloc, members, "m_ExtraDataString", strings.extra.as_str())?;
+    put_text(alloc, members, "m_KeyDataString", strings.key.as_str())?;
     Ok(())
 }
 
-#[tactic(auto, unfolding(crate::specs::Put::with_lists))]
+#[tactic(auto, unfolding(crate::specs::within::Put::with_lists))]
 fn put_lists(alloc: Global, members: &mut Map<String, Value>, lists: &Lists) -> Result<(), NoMemory>
     ensures { OnOk result (members_view members.new.entries ≡ with_lists lists.now (members_view members.old.entries)) }
 {

@@ -1,5 +1,5 @@
 -- The body of a text: what is read from a body has that body, and what a text's body holds reads as the text.
-use Rattle.std.proofs.Common.{◌≡◌, ℕ, zero, suc, ◌*◌, ◌%◌, ◌^◌, ◌<◌, Bool, true, false, cond, eqb, List, [], ◌∷◌, ◌++◌, length, get_or, Ok, Err, refl, sym, ap, subst, ◌∙◌, arith, inl, inr}
+use Rattle.std.proofs.Common.{◌≡◌, ℕ, zero, suc, ◌*◌, ◌%◌, ◌^◌, ◌<◌, true, false, eqb, List, [], ◌∷◌, ◌++◌, length, get_or, Ok, refl, sym, ap, subst, ◌∙◌, arith, inl, inr}
 use Rattle.std.specs.Prelude.{◌||◌, IsUtf8, chars, encode_utf8_all}
 use Rattle.std.specs.List.{flat_map}
 use Rattle.std.specs.Int.{w16, to_le_bytes, from_le_bytes}
@@ -11,7 +11,7 @@ use Rattle.std.proofs.lemmas.Bool.{cases_lt, eqb-false}
 use Rattle.std.proofs.lemmas.Nat.{le_bytes_2, from_le_bytes-to_le_bytes_2}
 use Rattle.std.proofs.lemmas.Str.{scalars-chars, chars-encodes}
 use Rattle.std.proofs.lemmas.List.Concat.{flat_map-cons}
-use Rattle.addr_keys.specs.declared.error.KeyErr.{KeyErr}
+use Rattle.addr_reading.proofs.StepLaws.{ok_is, chosen, guarded}
 use Rattle.addr_keys.specs.declared.error.KeyErr.TheVariants.{NotAscii, Surrogate}
 use Rattle.addr_keys.specs.Format.{is_ascii, utf16_units, utf16_bytes}
 use Rattle.addr_keys.specs.Faults.{ascii_of, units_of, utf16_of}
@@ -20,15 +20,6 @@ use Rattle.addr_keys.proofs.Utf16Lemmas.{AreUnits, reads_as, are_spelled, either
 
 abbrev pub IsBytes : List ℕ → Type 0
 IsBytes bytes = (i : ℕ) → get_or bytes i 0 < 256
-
--- a choice that gave a value
-pub chosen : {A : Type 0} (t : Bool) (d : KeyErr) (x y : A) → cond t (Ok x) (Err d) ≡ Ok y → (t ≡ true) × (x ≡ y)
-chosen true d x y e = (refl, cc)
-chosen false d x y e = absurd cc
-
-pub guarded : {A : Type 0} (t : Bool) (d : KeyErr) (x y : A) → cond t (Err d) (Ok x) ≡ Ok y → (t ≡ false) × (x ≡ y)
-guarded true d x y e = absurd cc
-guarded false d x y e = (refl, cc)
 
 -- ---- ASCII
 
@@ -111,12 +102,13 @@ pub utf16_takes : (body text : List ℕ) → IsBytes body → utf16_of body ≡ 
 unfolding utf16_of utf16_bytes utf16_units
 utf16_takes body text fits e =
     let us = units_of body in
-    let g = guarded (eqb (length body % 2) 1 || has_unpaired_surrogate us) Surrogate (encode_utf8_all (utf16_lossy_chars us)) text e in
+    let g = guarded (eqb (length body % 2) 1 || has_unpaired_surrogate us) Surrogate (Ok (encode_utf8_all (utf16_lossy_chars us))) text e in
+    let is = ok_is (encode_utf8_all (utf16_lossy_chars us)) text g.1 in
     let parts = either_false (eqb (length body % 2) 1) (has_unpaired_surrogate us) g.0 in
     let even : length body % 2 ≡ 0 = is_even (length body) parts.0 in
     let spelled = are_spelled us (units_small body fits) parts.1 in
-    let chars-is : chars text ≡ utf16_lossy_chars us = ap chars (sym g.1) ∙ chars-encodes (utf16_lossy_chars us) spelled.scalar in
-    ((utf16_lossy_chars us, (spelled.scalar, g.1)), rw (chars-is, spelled.units) (bytes_again body fits even))
+    let chars-is : chars text ≡ utf16_lossy_chars us = ap chars (sym is) ∙ chars-encodes (utf16_lossy_chars us) spelled.scalar in
+    ((utf16_lossy_chars us, (spelled.scalar, is)), rw (chars-is, spelled.units) (bytes_again body fits even))
 
 pub utf16_again : (text : List ℕ) → IsUtf8 text → utf16_of (utf16_bytes text) ≡ Ok text
 unfolding utf16_of utf16_bytes

@@ -1,14 +1,14 @@
 -- A field that is read is the field that was written, and what was written is read again.
-use Rattle.std.proofs.Common.{◌≡◌, ℕ, suc, ◌+◌, ◌^◌, ◌<◌, ◌≤◌, true, false, ltb, List, [], ◌∷◌, ◌++◌, length, take, drop, Result, Ok, Err, refl, sym, ap, subst, ◌∙◌, append_assoc, arith, inl, inr}
+use Rattle.std.proofs.Common.{◌≡◌, ℕ, suc, ◌+◌, ◌^◌, ◌<◌, ◌≤◌, true, false, ltb, List, [], ◌∷◌, ◌++◌, length, take, drop, Ok, refl, sym, ap, subst, ◌∙◌, append_assoc, arith, inl, inr}
 use Rattle.std.specs.Int.{Width, w16, w32, byte_len, from_le_bytes, to_le_bytes}
 use Rattle.std.proofs.lemmas.Bool.{cases_lt, ltb-true, ltb-false, le-ltb, lt-ltb}
 use Rattle.std.proofs.lemmas.List.{take_at, drop_at, take-append-drop, length-append, length-take, get_or-drop, get_or-take, get_or_past}
 use Rattle.std.proofs.lemmas.Nat.{le_bytes_2, le_bytes_4, from_le_bytes-to_le_bytes_2, from_le_bytes-to_le_bytes_4}
-use Rattle.addr_keys.specs.declared.error.KeyErr.{KeyErr}
+use Rattle.addr_reading.proofs.StepLaws.{bind_ok, ok_is, chosen, guarded}
 use Rattle.addr_keys.specs.declared.error.KeyErr.TheVariants.{Short, Negative}
 use Rattle.addr_keys.specs.Format.{is_ascii, utf16_bytes, short, long, IsShort, IsLong, IsWide}
-use Rattle.addr_keys.specs.Faults.{◌>>=◌, byte_at, number_at, length_at, body_at, ascii_of, utf16_of, short_at, ascii_at, utf16_at}
-use Rattle.addr_keys.proofs.BodyLemmas.{IsBytes, chosen, guarded, ascii_takes, ascii_again, utf16_takes, utf16_again}
+use Rattle.addr_keys.specs.Faults.{byte_at, number_at, length_at, body_at, ascii_of, utf16_of, short_at, ascii_at, utf16_at}
+use Rattle.addr_keys.proofs.BodyLemmas.{IsBytes, ascii_takes, ascii_again, utf16_takes, utf16_again}
 
 pub IsBytes-drop : (n : ℕ) (bytes : List ℕ) → IsBytes bytes → IsBytes (drop n bytes)
 IsBytes-drop n bytes h i = rw get_or-drop (h (n + i))
@@ -19,17 +19,6 @@ IsBytes-take n bytes h i =
       | inl lt ↦ rw (get_or-take n bytes i 0 lt) (h i)
       | inr le ↦ rw (get_or_past (take n bytes) i 0 (omega (arith, length-take n bytes))) (omega arith)
     ]
-
--- the value of a step that did not fail
-pub bind_ok : {A B : Type 0} (r : Result A KeyErr) (f : A → Result B KeyErr) (y : B) → (r >>= f) ≡ Ok y → (x : A) × (r ≡ Ok x) × (f x ≡ Ok y)
-bind_ok (Ok x) f y e = (x, refl, e)
-bind_ok (Err d) f y e = absurd cc
-
-abbrev done : {A : Type 0} → A → Result A KeyErr
-done x = Ok x
-
-pub ok_is : {A : Type 0} (x y : A) → done x ≡ done y → x ≡ y
-ok_is x y e = cc
 
 -- what a reader took from the front
 pub record Takes (bytes text rest : List ℕ) : Type 0 where
@@ -76,10 +65,11 @@ number32 = record {
 pub number_takes : (w : Width) (limit : ℕ) (number : IsNumber w limit) (bytes : List ℕ) (n : ℕ) (rest : List ℕ) → IsBytes bytes → number_at w bytes ≡ Ok (n, rest) → Takes bytes (to_le_bytes w n) rest × (n < limit)
 unfolding number_at
 number_takes w limit number bytes n rest fits e =
-    let g = guarded (ltb (length bytes) (byte_len w)) Short (from_le_bytes w (take (byte_len w) bytes), drop (byte_len w) bytes) (n, rest) e in
+    let g = guarded (ltb (length bytes) (byte_len w)) Short (Ok (from_le_bytes w (take (byte_len w) bytes), drop (byte_len w) bytes)) (n, rest) e in
+    let is = ok_is (from_le_bytes w (take (byte_len w) bytes), drop (byte_len w) bytes) (n, rest) g.1 in
     let enough : byte_len w ≤ length bytes = ltb-false _ _ g.0 in
-    let n-is : from_le_bytes w (take (byte_len w) bytes) ≡ n = ap (λ (p : ℕ × List ℕ). p.0) g.1 in
-    let rest-is : drop (byte_len w) bytes ≡ rest = ap (λ (p : ℕ × List ℕ). p.1) g.1 in
+    let n-is : from_le_bytes w (take (byte_len w) bytes) ≡ n = ap (λ (p : ℕ × List ℕ). p.0) is in
+    let rest-is : drop (byte_len w) bytes ≡ rest = ap (λ (p : ℕ × List ℕ). p.1) is in
     let front : to_le_bytes w n ≡ take (byte_len w) bytes = rw (← n-is) (number.back (take (byte_len w) bytes) (omega (arith, length-take (byte_len w) bytes)) (IsBytes-take (byte_len w) bytes fits)) in
     (record { parts = rw (front, ← rest-is) (sym (take-append-drop (byte_len w) bytes)); fits = rw (← rest-is) (IsBytes-drop (byte_len w) bytes fits) }, rw (← n-is) (number.below (take (byte_len w) bytes) (IsBytes-take (byte_len w) bytes fits)))
 
@@ -107,10 +97,10 @@ length_again n rest lt =
 body_takes : (n : ℕ) (bytes body rest : List ℕ) → IsBytes bytes → body_at n bytes ≡ Ok (body, rest) → Takes bytes body rest × (length body ≡ n) × IsBytes body
 unfolding body_at
 body_takes n bytes body rest fits e =
-    let g = guarded (ltb (length bytes) n) Short (take n bytes, drop n bytes) (body, rest) e in
+    let g = guarded (ltb (length bytes) n) Short (Ok (take n bytes, drop n bytes)) (body, rest) e in
     let enough : n ≤ length bytes = ltb-false _ _ g.0 in
     let first : Takes bytes (take n bytes) (drop n bytes) = record { parts = sym (take-append-drop n bytes); fits = IsBytes-drop n bytes fits } in
-    subst (λ (p : List ℕ × List ℕ). Takes bytes p.0 p.1 × (length p.0 ≡ n) × IsBytes p.0) g.1 (first, omega (arith, length-take n bytes), IsBytes-take n bytes fits)
+    subst (λ (p : List ℕ × List ℕ). Takes bytes p.0 p.1 × (length p.0 ≡ n) × IsBytes p.0) (ok_is (take n bytes, drop n bytes) (body, rest) g.1) (first, omega (arith, length-take n bytes), IsBytes-take n bytes fits)
 
 body_again : (body rest : List ℕ) → body_at (length body) (body ++ rest) ≡ Ok (body, rest)
 unfolding body_at

@@ -15,7 +15,7 @@ use Rattle.addr_keys.specs.declared.key.Key.TheVariants as keys
 use Rattle.addr_keys.specs.Format.{is_ascii, utf16_units, utf16_bytes, long, key_text, IsForm, IsLong, IsWritable}
 use Rattle.addr_keys.proofs.TextLemmas.{IsAscii-from_test, utf8_of_ascii}
 use Rattle.addr_keys.proofs.BodyLemmas.{double_units}
-use Rattle.addr_keys.proofs.FieldLemmas.{ok_is}
+use Rattle.addr_reading.proofs.StepLaws.{ok_is}
 use Rattle.addr_keys.proofs.KeyLemmas.{key_again}
 
 pub is_text_form : (text : List ℕ) → IsUtf8 text → IsWritable (keys.Text text) → IsForm (keys.Text text) (key_text (keys.Text text))

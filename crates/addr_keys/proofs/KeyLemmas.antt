@@ -6,13 +6,16 @@ use Rattle.std.proofs.lemmas.Bool.{eqb-true}
 use Rattle.std.proofs.lemmas.Int.{of_z-to_z, to_z-of_z, ints}
 use Rattle.std.proofs.lemmas.List.{length-append, length-drop, take_at}
 use Rattle.std.proofs.lemmas.List.Folds.{drop_split}
+use Rattle.addr_reading.specs.Gives.{Gives}
+use Rattle.addr_reading.proofs.StepLaws.{bind_ok, ok_is}
 use Rattle.addr_keys.specs.declared.key.Key.{Key}
 use Rattle.addr_keys.specs.declared.key.Key.TheVariants as keys
 use Rattle.addr_keys.specs.declared.error.KeyErr.{KeyErr}
+use Rattle.addr_keys.specs.declared.error.KeyErr.TheVariants.{NoMemory}
 use Rattle.addr_keys.specs.Format.{utf16_bytes, short, long, IsForm, IsShort, IsWide, KeyAt}
-use Rattle.addr_keys.specs.Faults.{Gives, made, byte_at, number_at, short_at, ascii_at, utf16_at, json_at, body_of_kind, key_first, key_read}
+use Rattle.addr_keys.specs.Faults.{made, byte_at, number_at, short_at, ascii_at, utf16_at, json_at, body_of_kind, key_first, key_read}
 use Rattle.addr_keys.proofs.BodyLemmas.{IsBytes}
-use Rattle.addr_keys.proofs.FieldLemmas.{IsBytes-drop, bind_ok, ok_is, Takes, Takes-then, number16, number32, byte_takes, number_takes, number_again, short_takes, short_again, ascii_at_takes, ascii_at_again, utf16_at_takes, utf16_at_again}
+use Rattle.addr_keys.proofs.FieldLemmas.{IsBytes-drop, Takes, Takes-then, number16, number32, byte_takes, number_takes, number_again, short_takes, short_again, ascii_at_takes, ascii_at_again, utf16_at_takes, utf16_at_again}
 
 -- a body of some kind was taken, and kind and body are a form of the key
 pub record TakesKey (kind : ℕ) (bytes : List ℕ) (key : Key) (rest : List ℕ) : Type 0 where
@@ -146,7 +149,7 @@ is_found bytes at x fits e =
     let cut = cut_of bytes t.text a.0.1 at end t.takes.parts many in
     subst (λ (p : Key × ℕ). KeyAt bytes at p.0 p.1) (ok_is (a.0.0, end) x a.2) (omega arith, omega arith, subst (IsForm a.0.0) (sym cut) t.form)
 
-pub found_of : (bytes : List ℕ) (at : ℕ) (r : Result (Key × ℕ) KeyErr) → IsBytes bytes → Gives (λ x. x) r (key_read bytes at) → IfOk r (λ x. KeyAt bytes at x.0 x.1)
+pub found_of : (bytes : List ℕ) (at : ℕ) (r : Result (Key × ℕ) KeyErr) → IsBytes bytes → Gives NoMemory (λ x. x) r (key_read bytes at) → IfOk r (λ x. KeyAt bytes at x.0 x.1)
 found_of bytes at (Ok x) fits given = is_found bytes at x fits given
 found_of bytes at (Err e) fits given = tt
 

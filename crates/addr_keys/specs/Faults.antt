@@ -1,23 +1,13 @@
 -- What reading a key from left to right gives: the key and the bytes after it, or the first fault that is met.
-use Rattle.std.specs.Prelude.{◌≡◌, ◌≢◌, ℕ, ◌-◌, ◌^◌, ◌%◌, List, [], ◌∷◌, length, take, drop, Result, Ok, Err, nat_lt, ◌==◌, ◌||◌, encode_utf8_all, if◌then◌else◌}
+use Rattle.std.specs.Prelude.{ℕ, ◌-◌, ◌^◌, ◌%◌, List, [], ◌∷◌, length, take, drop, Result, Ok, Err, nat_lt, ◌==◌, ◌||◌, encode_utf8_all, if◌then◌else◌}
 use Rattle.std.specs.Int.{Width, w16, w32, byte_len, from_le_bytes, cast_signed}
 use Rattle.std.specs.Char.Utf16.{has_unpaired_surrogate, utf16_lossy_chars}
+use Rattle.addr_reading.specs.Steps.{◌>>=◌}
 use Rattle.addr_keys.specs.declared.key.Key.{Key}
 use Rattle.addr_keys.specs.declared.key.Key.TheVariants as keys
 use Rattle.addr_keys.specs.declared.error.KeyErr.{KeyErr}
-use Rattle.addr_keys.specs.declared.error.KeyErr.TheVariants.{Short, Kind, NotAscii, Surrogate, Negative, NoMemory}
+use Rattle.addr_keys.specs.declared.error.KeyErr.TheVariants.{Short, Kind, NotAscii, Surrogate, Negative}
 use Rattle.addr_keys.specs.Format.{is_ascii}
-
--- one step after another, up to the first that fails
-infixl 10 ◌>>=◌
-abbrev pub ◌>>=◌ : {A B : Type 0} → Result A KeyErr → (A → Result B KeyErr) → Result B KeyErr
-(Ok x) >>= f = f x
-(Err e) >>= f = Err e
-
--- what a call answered, seen by a view, is what reading gives, unless memory was refused
-abbrev pub Gives : {X Y : Type 0} → (X → Y) → Result X KeyErr → Result Y KeyErr → Type 0
-Gives view (Ok x) read = read ≡ Ok (view x)
-Gives view (Err e) read = e ≢ NoMemory → read ≡ Err e
 
 -- a byte, and the bytes after it
 unfoldable pub byte_at : List ℕ → Result (ℕ × List ℕ) KeyErr

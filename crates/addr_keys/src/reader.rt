@@ -3,9 +3,10 @@
 ghost use Rattle.std.specs.Prelude.{◌≡◌, ◌≢◌, ◌↔◌, ℕ, Ok, Err, IfOk};
 ghost use Rattle.std.specs.Int.{w16, w32};
 ghost use Rattle.addr_keys.specs.declared.key.Key.{Key};
-ghost use Rattle.addr_keys.specs.declared.error.KeyErr.TheVariants.{NoMemory};
+ghost use Rattle.addr_keys.specs.declared.error.KeyErr.TheVariants as faults;
 ghost use Rattle.addr_keys.specs.Format.{KeyAt};
-ghost use Rattle.addr_keys.specs.Faults.{Gives, byte_at, number_at, length_at, body_at, short_at, ascii_at, utf16_at, json_at, body_of_kind, key_first, key_read};
+ghost use Rattle.addr_reading.specs.Gives.{Gives};
+ghost use Rattle.addr_keys.specs.Faults.{byte_at, number_at, length_at, body_at, short_at, ascii_at, utf16_at, json_at, body_of_kind, key_first, key_read};
 
 use crate::error::KeyErr;
 use crate::key::Key;
@@ -15,7 +16,7 @@ use std::alloc::Global;
 
 #[tactic(auto, unfolding(crate::specs::Faults::byte_at))]
 fn byte_of(bytes: &[u8]) -> Result<(u8, &[u8]), KeyErr>
-    ensures { Gives (λ x. (x.0, x.1.now)) result (byte_at bytes.now) }
+    ensures { Gives faults.NoMemory (λ x. (x.0, x.1.now)) result (byte_at bytes.now) }
 {
     match bytes {
         [] => Err(KeyErr::Short),
@@ -25,7 +26,7 @@ fn byte_of(bytes: &[u8]) -> Result<(u8, &[u8]), KeyErr>
 
 #[tactic(auto, unfolding(crate::specs::Faults::number_at))]
 fn u16_of(bytes: &[u8]) -> Result<(u16, &[u8]), KeyErr>
-    ensures { Gives (λ x. (x.0, x.1.now)) result (number_at w16 bytes.now) }
+    ensures { Gives faults.NoMemory (λ x. (x.0, x.1.now)) result (number_at w16 bytes.now) }
 {
     if bytes.len() < 2 {
         return Err(KeyErr::Short);
@@ -36,7 +37,7 @@ fn u16_of(bytes: &[u8]) -> Result<(u16, &[u8]), KeyErr>
 
 #[tactic(auto, unfolding(crate::specs::Faults::number_at))]
 fn u32_of(bytes: &[u8]) -> Result<(u32, &[u8]), KeyErr>
-    ensures { Gives (λ x. (x.0, x.1.now)) result (number_at w32 bytes.now) }
+    ensures { Gives faults.NoMemory (λ x. (x.0, x.1.now)) result (number_at w32 bytes.now) }
 {
     if bytes.len() < 4 {
         return Err(KeyErr::Short);
@@ -48,7 +49,7 @@ fn u32_of(bytes: &[u8]) -> Result<(u32, &[u8]), KeyErr>
 
 #[tactic(auto, unfolding(crate::specs::Faults::length_at))]
 fn length_of(bytes: &[u8]) -> Result<(u32, &[u8]), KeyErr>
-    ensures { Gives (λ x. (x.0, x.1.now)) result (length_at bytes.now) }
+    ensures { Gives faults.NoMemory (λ x. (x.0, x.1.now)) result (length_at bytes.now) }
 {
     let (len, rest) = u32_of(bytes)?;
     if len > i32::MAX as u32 {
@@ -59,7 +60,7 @@ fn length_of(bytes: &[u8]) -> Result<(u32, &[u8]), KeyErr>
 
 #[tactic(auto, unfolding(crate::specs::Faults::body_at))]
 fn body_of(len: usize, bytes: &[u8]) -> Result<(&[u8], &[u8]), KeyErr>
-    ensures { Gives (λ x. (x.0.now, x.1.now)) result (body_at len bytes.now) }
+    ensures { Gives faults.NoMemory (λ x. (x.0.now, x.1.now)) result (body_at len bytes.now) }
 {
     if bytes.len() < len {
         return Err(KeyErr::Short);
@@ -69,7 +70,7 @@ fn body_of(len: usize, bytes: &[u8]) -> Result<(&[u8], &[u8]), KeyErr>
 
 #[tactic(auto, unfolding(crate::specs::Faults::short_at))]
 fn short_of(alloc: Global, bytes: &[u8]) -> Result<(Text, &[u8]), KeyErr>
-    ensures { Gives (λ x. (x.0, x.1.now)) result (short_at bytes.now) }
+    ensures { Gives faults.NoMemory (λ x. (x.0, x.1.now)) result (short_at bytes.now) }
 {
     let (len, rest) = byte_of(bytes)?;
     let (body, rest) = body_of(len as usize, rest)?;
@@ -79,7 +80,7 @@ fn short_of(alloc: Global, bytes: &[u8]) -> Result<(Text, &[u8]), KeyErr>
 
 #[tactic(auto, unfolding(crate::specs::Faults::ascii_at))]
 fn ascii_of(alloc: Global, bytes: &[u8]) -> Result<(Text, &[u8]), KeyErr>
-    ensures { Gives (λ x. (x.0, x.1.now)) result (ascii_at bytes.now) }
+    ensures { Gives faults.NoMemory (λ x. (x.0, x.1.now)) result (ascii_at bytes.now) }
 {
     let (len, rest) = length_of(bytes)?;
     let (body, rest) = body_of(len as usize, rest)?;
@@ -89,7 +90,7 @@ fn ascii_of(alloc: Global, bytes: &[u8]) -> Result<(Text, &[u8]), KeyErr>
 
 #[tactic(auto, unfolding(crate::specs::Faults::utf16_at))]
 fn utf16_of(alloc: Global, bytes: &[u8]) -> Result<(Text, &[u8]), KeyErr>
-    ensures { Gives (λ x. (x.0, x.1.now)) result (utf16_at bytes.now) }
+    ensures { Gives faults.NoMemory (λ x. (x.0, x.1.now)) result (utf16_at bytes.now) }
 {
     let (byte_count, rest) = length_of(bytes)?;
     let (body, rest) = body_of(byte_count as usize, rest)?;
@@ -99,7 +100,7 @@ fn utf16_of(alloc: Global, bytes: &[u8]) -> Result<(Text, &[u8]), KeyErr>
 
 #[tactic(auto, unfolding(crate::specs::Faults::json_at))]
 fn json_of(alloc: Global, bytes: &[u8]) -> Result<(Key, &[u8]), KeyErr>
-    ensures { Gives (λ x. (x.0, x.1.now)) result (json_at bytes.now) }
+    ensures { Gives faults.NoMemory (λ x. (x.0, x.1.now)) result (json_at bytes.now) }
 {
     let (assembly, rest) = short_of(alloc, bytes)?;
     let (class, rest) = short_of(alloc, rest)?;
@@ -114,7 +115,7 @@ fn json_of(alloc: Global, bytes: &[u8]) -> Result<(Key, &[u8]), KeyErr>
 
 #[tactic(auto, unfolding(crate::specs::Faults::body_of_kind))]
 fn key_of_kind(alloc: Global, kind: u8, bytes: &[u8]) -> Result<(Key, &[u8]), KeyErr>
-    ensures { Gives (λ x. (x.0, x.1.now)) result (body_of_kind kind bytes.now) }
+    ensures { Gives faults.NoMemory (λ x. (x.0, x.1.now)) result (body_of_kind kind bytes.now) }
 {
     match kind {
         0 => ascii_of(alloc, bytes).map(|(text, rest)| (Key::Text(text), rest)),
@@ -131,7 +132,7 @@ fn key_of_kind(alloc: Global, kind: u8, bytes: &[u8]) -> Result<(Key, &[u8]), Ke
 
 #[tactic(auto, unfolding(crate::specs::Faults::key_first))]
 fn first_key(alloc: Global, bytes: &[u8]) -> Result<(Key, &[u8]), KeyErr>
-    ensures { Gives (λ x. (x.0, x.1.now)) result (key_first bytes.now) }
+    ensures { Gives faults.NoMemory (λ x. (x.0, x.1.now)) result (key_first bytes.now) }
 {
     let (kind, rest) = byte_of(bytes)?;
     key_of_kind(alloc, kind, rest)
@@ -139,7 +140,7 @@ fn first_key(alloc: Global, bytes: &[u8]) -> Result<(Key, &[u8]), KeyErr>
 
 #[tactic(auto, unfolding(crate::specs::Faults::key_read))]
 fn key_from(alloc: Global, bytes: &[u8], at: usize) -> Result<(Key, usize), KeyErr>
-    ensures { Gives (λ x. x) result (key_read bytes.now at) }
+    ensures { Gives faults.NoMemory (λ x. x) result (key_read bytes.now at) }
 {
     let tail = bytes.get(at..).unwrap_or(&[]);
     let (key, rest) = first_key(alloc, tail)?;
@@ -151,11 +152,11 @@ pub fn read_key(alloc: Global, bytes: &[u8], at: usize) -> Result<(Key, usize), 
     // What is read stands there.
     ensures found { IfOk result (λ x. KeyAt bytes.now at x.0 x.1) }
     // What stands there is read, unless memory is refused.
-    ensures only { (key : Key) (end : ℕ) → KeyAt bytes.now at key end → Gives (λ x. x) result (Ok (key, end)) }
+    ensures only { (key : Key) (end : ℕ) → KeyAt bytes.now at key end → Gives faults.NoMemory (λ x. x) result (Ok (key, end)) }
     // Which fault it is, where it is one.
-    ensures exact { Gives (λ x. x) result (key_read bytes.now at) }
+    ensures exact { Gives faults.NoMemory (λ x. x) result (key_read bytes.now at) }
     // So at each place stands one key or a first fault, and never both; and no fault is want of memory.
-    ensures named { key_read bytes.now at ≢ Err NoMemory }
+    ensures named { key_read bytes.now at ≢ Err faults.NoMemory }
     ensures law { (key : Key) (end : ℕ) → (KeyAt bytes.now at key end ↔ (key_read bytes.now at ≡ Ok (key, end))) }
 {
     key_from(alloc, bytes, at)

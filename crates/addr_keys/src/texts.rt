@@ -1,8 +1,10 @@
 // The texts inside a key's body, as bytes: ASCII, and UTF-16 with surrogate pairs.
 // std reads UTF-16 whole, so a body becomes its units first; a lone surrogate is then std's only error.
 ghost use Rattle.std.specs.Prelude.{◌≡◌, IfOk};
+ghost use Rattle.addr_keys.specs.declared.error.KeyErr.TheVariants as faults;
 ghost use Rattle.addr_keys.specs.Format.{is_ascii};
-ghost use Rattle.addr_keys.specs.Faults.{Gives, ascii_of, units_of, utf16_of};
+ghost use Rattle.addr_reading.specs.Gives.{Gives};
+ghost use Rattle.addr_keys.specs.Faults.{ascii_of, units_of, utf16_of};
 
 use crate::error::KeyErr;
 use addr_base::{NoMemory, Text};
@@ -17,7 +19,7 @@ pub fn is_ascii(text: &[u8]) -> bool
 
 #[tactic(auto, using(crate::proofs::TextLemmas::utf8_of_ascii), unfolding(crate::specs::Faults::ascii_of))]
 pub fn ascii_text(alloc: Global, body: &[u8]) -> Result<Text, KeyErr>
-    ensures { Gives (λ t. t) result (ascii_of body.now) }
+    ensures { Gives faults.NoMemory (λ t. t) result (ascii_of body.now) }
 {
     if !is_ascii(body) {
         return Err(KeyErr::NotAscii);
@@ -43,7 +45,7 @@ fn units_of(alloc: Global, body: &[u8]) -> Result<Vec<u16>, NoMemory>
 
 #[tactic(auto, unfolding(crate::specs::Faults::utf16_of))]
 pub fn utf16_text(alloc: Global, body: &[u8]) -> Result<Text, KeyErr>
-    ensures { Gives (λ t. t) result (utf16_of body.now) }
+    ensures { Gives faults.NoMemory (λ t. t) result (utf16_of body.now) }
 {
     if body.len() % 2 == 1 {
         return Err(KeyErr::Surrogate);

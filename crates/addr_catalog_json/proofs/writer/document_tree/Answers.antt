@@ -3,7 +3,7 @@ use Rattle.serde_json.specs.Data.{object}
 use Rattle.serde_json.specs.View.{members_view}
 use Rattle.serde_json.specs.declared.value.Value.{Value}
 use Rattle.serde_json.proofs.Views.{view-Object}
-use Rattle.addr_catalog_json.specs.Put.{with_fixed, with_strings, with_lists, with_digest}
+use Rattle.addr_catalog_json.specs.within.Put.{with_fixed, with_strings, with_lists, with_digest}
 use Rattle.addr_catalog_json.proofs.WrittenLemmas.{members_written}
 use Rattle.addr_catalog_json.proofs.writer.document_tree.Goals as goal
 

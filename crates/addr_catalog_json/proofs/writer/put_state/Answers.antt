@@ -2,7 +2,7 @@ use Rattle.std.proofs.Common.{◌∙◌, sym, ap, codes, Option}
 use Rattle.serde_json.specs.Data.{Data, put}
 use Rattle.serde_json.specs.View.{members_view}
 use Rattle.addr_base.specs.declared.ids.Digest.{Digest}
-use Rattle.addr_catalog_json.specs.Put.{with_digest}
+use Rattle.addr_catalog_json.specs.within.Put.{with_digest}
 use Rattle.addr_catalog_json.proofs.writer.put_state.Goals as goal
 
 pub returns-clause-put : goal.returns-clause-put

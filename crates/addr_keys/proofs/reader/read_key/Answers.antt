@@ -1,7 +1,8 @@
 use Rattle.std.proofs.Common.{Result, ℕ, subst, arith}
 use Rattle.addr_keys.specs.declared.key.Key.{Key}
 use Rattle.addr_keys.specs.declared.error.KeyErr.{KeyErr}
-use Rattle.addr_keys.specs.Faults.{Gives}
+use Rattle.addr_keys.specs.declared.error.KeyErr.TheVariants.{NoMemory}
+use Rattle.addr_reading.specs.Gives.{Gives}
 use Rattle.addr_keys.proofs.KeyLemmas.{found_of, is_found, is_read}
 use Rattle.addr_keys.proofs.NamedLemmas.{key_named}
 use Rattle.addr_keys.proofs.reader.read_key.Goals as goal
@@ -10,7 +11,7 @@ pub returns-clause-found : goal.returns-clause-found
 returns-clause-found c = found_of c.args.bytes.now c.args.at c.key_from.result (λ i. omega (arith, c.type_inv.bytes i)) c.key_from.ensures
 
 pub returns-clause-only : goal.returns-clause-only
-returns-clause-only c = λ key end is. subst (λ (x : Result (Key × ℕ) KeyErr). Gives (λ y. y) c.key_from.result x) (is_read c.args.bytes.now c.args.at key end is) c.key_from.ensures
+returns-clause-only c = λ key end is. subst (λ (x : Result (Key × ℕ) KeyErr). Gives NoMemory (λ y. y) c.key_from.result x) (is_read c.args.bytes.now c.args.at key end is) c.key_from.ensures
 
 pub returns-clause-named : goal.returns-clause-named
 returns-clause-named c = key_named c.args.bytes.now c.args.at

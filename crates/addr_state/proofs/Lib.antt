@@ -1,0 +1,10 @@
+pub mod SeenLemmas
+pub mod RowLemmas
+pub mod NamedLaws
+pub mod BackLemmas
+pub mod ReadLaws
+pub mod SoundTests
+pub mod SoundPasses
+pub mod PassesSound
+pub mod WrittenLemmas
+pub mod NameBytes

@@ -1,0 +1,4 @@
+-- Helpers of the code and of its proofs, which no clause of a public call reaches.
+pub mod Kept
+pub mod Put
+pub mod Seen
