@@ -35,6 +35,7 @@ pub use byte_strings::is_same;
 pub use cause::{Cause, Layer};
 pub use depot::{Depot, DepotErr};
 pub use escapes::{esc, spellings_differ};
+pub use fail_plan::FailPlan;
 pub use files::MemFile;
 pub use hashing::digest;
 pub use hex_text::parse_hex;
