@@ -1,0 +1,4 @@
+pub mod Heads
+pub mod Hearing
+pub mod Requests
+pub mod Responses
