@@ -6,13 +6,25 @@
 #![tactic(auto)]
 
 mod answering;
+mod bodies;
+mod collecting;
+mod fetch_answer;
+mod fetching;
+mod headed;
 mod heads;
 mod hearing;
+mod http_fetch;
+mod outcome;
+mod pour;
+mod receiving;
 mod replies;
 mod requests;
+mod targets;
 
 pub use answering::{Served, answer};
 pub use heads::{Heard, head_end};
 pub use hearing::hear;
+pub use http_fetch::HttpFetch;
+pub use pour::{Pour, Poured};
 pub use replies::Reply;
 pub use requests::{Asked, judge};
