@@ -1,0 +1,11 @@
+pub mod AnswerLemmas
+pub mod BodyLemmas
+pub mod CollectingLemmas
+pub mod ConversationLemmas
+pub mod FetchLemmas
+pub mod FieldLemmas
+pub mod HeadLemmas
+pub mod HearingLemmas
+pub mod JudgeLemmas
+pub mod PathLemmas
+pub mod ReceivingLemmas

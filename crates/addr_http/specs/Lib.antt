@@ -1,0 +1,14 @@
+pub mod Answers
+pub mod Asking
+pub mod Bodies
+pub mod Collecting
+pub mod Conversations
+pub mod Fetching
+pub mod Fronts
+pub mod Heads
+pub mod Hearing
+pub mod Pours
+pub mod Received
+pub mod Requests
+pub mod Responses
+pub mod Targets

@@ -1,0 +1,1 @@
+// What no clause says: that the fakes succeed where memory is ample.
