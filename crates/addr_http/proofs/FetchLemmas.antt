@@ -43,12 +43,12 @@ not_asked took limit (Some address) p q old new a = absurd a
 
 pub fetches_none : {P : Type 0} (took : P → List ℕ → Type 0) (limit : ℕ) (there : Option Address) (p q : P) (old new : HttpNow) → there ≡ None → q ≡ p → new ≡ old → Fetches took limit there Missing p q old new
 fetches_none took limit None p q old new e a b = record {
-    poured = [];
-    pours = subst (λ x. Pours took p x []) (sym a) (pours_none took p);
-    within = omega arith;
-    sizes = tt;
-    answers = (refl, b);
-  }
+  poured = [];
+  pours = subst (λ x. Pours took p x []) (sym a) (pours_none took p);
+  within = omega arith;
+  sizes = tt;
+  answers = (refl, b);
+}
 fetches_none took limit (Some address) p q old new e a b = absurd (cc)
 
 counted : (answer : Poured) (before now n : ℕ) → answer ≡ Fault n → n ≡ now → Rose before now → CountsBy answer before now

@@ -7,5 +7,6 @@ pub mod FieldLemmas
 pub mod HeadLemmas
 pub mod HearingLemmas
 pub mod JudgeLemmas
+pub mod OnceLemmas
 pub mod PathLemmas
 pub mod ReceivingLemmas

@@ -20,6 +20,8 @@ mod receiving;
 mod replies;
 mod requests;
 mod targets;
+#[cfg(test)]
+mod tests;
 
 pub use answering::{Served, answer};
 pub use heads::{Heard, head_end};
