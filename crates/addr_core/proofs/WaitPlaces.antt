@@ -1,8 +1,7 @@
 -- Lists of those that wait, after a write at one place.
-use Rattle.std.proofs.Common.{◌≡◌, inl, inr, ℕ, ◌+◌, ◌<◌, ◌≤◌, zero, suc, Bool, true, false, ◌||◌, not, eqb, List, [], ◌∷◌, ◌++◌, length, set, drop, take, get_or, Option, Some, None, slice_get, refl, sym, ◌∙◌, ap, subst, arith, if◌then◌else◌}
-use Rattle.std.proofs.lemmas.Bool.{false≢true, and_parts, eq-eqb, ne_eqb, not-true, cases_eq}
-use Rattle.std.proofs.lemmas.List.{map-set, drop_more, take_more}
-use Rattle.std.proofs.lemmas.List.Folds.{list_any-append}
+use Rattle.std.proofs.Common.{◌≡◌, ℕ, ◌+◌, ◌<◌, ◌≤◌, zero, suc, Bool, true, false, ◌||◌, not, eqb, List, [], ◌∷◌, ◌++◌, length, set, drop, get_or, Option, Some, slice_get, refl, sym, ◌∙◌, ap, subst, arith, if◌then◌else◌}
+use Rattle.std.proofs.lemmas.Bool.{false≢true, and_parts, eq-eqb, not-true}
+use Rattle.std.proofs.lemmas.List.{map-set, drop_more}
 use Rattle.addr_base.specs.declared.ids.BundleNo.{BundleNo}
 use Rattle.addr_locate.specs.Rows.{no_repeats}
 use Rattle.addr_history.specs.Events.{is_in}
@@ -51,31 +50,8 @@ past_none [] n v le is = cc
 past_none (x ∷ ws) zero v le is = absurd (omega arith)
 past_none (x ∷ ws) (suc n) v le is = past_none ws n v (omega arith) is
 
-pub change_none : (f : List ℕ → List ℕ) (ws : List Waiting) (n : ℕ) → length ws ≤ n → change f n (waiting_lists ws) ≡ waiting_lists ws
-change_none f ws n le = ap (λ (o : Option (List ℕ)). put_at (waiting_lists ws) n (changed_from f o)) (gone ws n le)
-  where
-    gone : (us : List Waiting) (m : ℕ) → length us ≤ m → slice_get (waiting_lists us) m ≡ None
-    gone [] m lt = refl
-    gone (x ∷ us) zero lt = absurd (omega arith)
-    gone (x ∷ us) (suc m) lt = gone us m (omega arith)
-
--- a step of the loop that makes room
+-- a step of the loop in which an operation begins to wait
 module _ (test : BundleNo → Bool) where
-  pub room_step : (needs : List BundleNo) (i : ℕ) (d : BundleNo) (old new : List Waiting) → i < length needs → no_repeats needs ≡ true → HasRoom test (take i needs) old → (test (get_or needs i d) ≡ true → (w : Waiting) → slice_get new (get_or needs i d).0 ≡ Some w → 0 < w.spare) → ((n : ℕ) → (n ≡ (get_or needs i d).0 → ⊥) → slice_get new n ≡ slice_get old n) → HasRoom test (take (i + 1) needs) new
-  room_step needs i d old new lt once room here others b w in_more passes at =
-      let b0 = get_or needs i d in
-      let is : (is_in b (take i needs) || (eqb b0.0 b.0 || false)) ≡ true = sym (ap (is_in b) (take_more needs i d lt) ∙ list_any-append (λ c. eqb c.0 b.0) (take i needs) (b0 ∷ [])) ∙ in_more in
-      elim (cases_eq b.0 b0.0) [
-        | inl same ↦
-            let it : b ≡ b0 = ap (λ n. let r : BundleNo = record { 0 = n } in r) same in
-            here (ap test (sym it) ∙ passes) w (ap (slice_get new) (sym same) ∙ at)
-        | inr other ↦ room b w (first (is_in b (take i needs)) (ap (λ t. is_in b (take i needs) || (t || false)) (sym (ne_eqb b0.0 b.0 (λ same. other (sym same)))) ∙ is)) passes (sym (others b.0 other) ∙ at)
-      ]
-    where
-      first : (s : Bool) → (s || false) ≡ true → s ≡ true
-      first true is = refl
-      first false is = absurd (false≢true is)
-
   pub wait_head : (needs : List BundleNo) (i : ℕ) (d : BundleNo) (ws : List Waiting) → i < length needs → HasRoom test (drop i needs) ws → test (get_or needs i d) ≡ true → (w : Waiting) → slice_get ws (get_or needs i d).0 ≡ Some w → 0 < w.spare
   wait_head needs i d ws lt room passes w at = room (get_or needs i d) w (ap (is_in (get_or needs i d)) (drop_more needs i d lt) ∙ head_in (get_or needs i d) (drop (i + 1) needs)) passes at
 

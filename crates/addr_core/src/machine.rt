@@ -34,12 +34,15 @@ pub struct Core<I: Image + Drop> {
     locator: Locator,
     limit: u32,
     events: Vec<Event>,
+    // by operation: the bundles that it needs, none once it is released; and how far it is
     needs: Vec<Items<BundleNo>>,
+    courses: Vec<Course>,
+    // by bundle: its image, where it stands, and the operations that wait for it
     images: Vec<Option<I>>,
     slots: Vec<Slot>,
-    courses: Vec<Course>,
     waits: Vec<Waiters>,
     queue: Queue,
+    // how many bundles are being fetched, how many operations are unreleased, whether Close came
     fetched: u32,
     opened: u32,
     closed: bool,
@@ -58,7 +61,7 @@ impl<I: Image + Drop> Model for Core<I> {
 }
 
 impl<I: Image + Drop> Core<I> {
-    /// A machine without an event. Takes the journal's whole room and the places for bundles at once.
+    /// A machine without an event. Takes the journal's whole room and the places for bundles at once: steps for each bundle.
     pub fn open(alloc: Global, locator: Locator, limit: u32) -> Result<Core<I>, NoMemory>
         requires least { 1 ≤ limit }
         requires greatest { limit ≤ 1000000 }
@@ -90,7 +93,8 @@ impl<I: Image + Drop> Core<I> {
         })
     }
 
-    /// Opens an operation. The events that its completion and its release need are reserved.
+    /// Opens an operation. The events that its completion and its release need are reserved. Behind finding its rows, steps
+    /// for each bundle that it needs.
     pub fn load(&mut self, caller: u32, ask: Ask) -> Result<OpId, LoadErr>
         requires { length ask.keys < 2 ^ 32 }
         ensures { Loads self.old caller ask result self.new }
@@ -155,7 +159,7 @@ impl<I: Image + Drop> Core<I> {
         }
     }
 
-    /// How far an operation is.
+    /// How far an operation is. One step.
     pub fn status(&self, op: OpId) -> Result<OpStatus, NoHandle>
         ensures { result ≡ status_reply self.now.rows self.now.history op }
     {
@@ -174,7 +178,8 @@ impl<I: Image + Drop> Core<I> {
         }
     }
 
-    /// Gives an operation back. A bundle whose count falls to zero loses its image or its place in the queue.
+    /// Gives an operation back. A bundle whose count falls to zero loses its image or its place in the queue. Steps for each
+    /// bundle that the operation needs.
     #[tactic(auto, unfolding(addr_history::specs::Answers::release_reply, addr_history::specs::Answers::release_adds))]
     pub fn release(&mut self, caller: u32, op: OpId) -> Result<(), NoHandle>
         ensures reply { result ≡ release_reply self.old.history op }
@@ -216,7 +221,7 @@ impl<I: Image + Drop> Core<I> {
         }
     }
 
-    /// The first queued bundle, for a worker to fetch.
+    /// The first queued bundle, for a worker to fetch. A few steps.
     pub fn take(&mut self, worker: u32) -> Next
         ensures reply { result ≡ take_reply self.old.rows self.old.history }
         ensures machine { self.new ≡ grown self.old (take_adds result worker) }
@@ -242,7 +247,7 @@ impl<I: Image + Drop> Core<I> {
     }
 
     /// Ends a fetch with the bundle's image. It comes back where that worker doesn't fetch the bundle, and is let go
-    /// where no operation needs the bundle any more.
+    /// where no operation needs the bundle any more. Steps for each operation that waits for the bundle.
     #[tactic(auto, unfolding(addr_history::specs::Answers::done_reply, addr_history::specs::Answers::done_adds))]
     pub fn done(&mut self, worker: u32, b: BundleNo, image: I) -> Result<Settled, I>
         requires { IfSome (slice_get self.old.rows.bundles b.0) (λ row. I.fits image row.size row.digest) }
@@ -300,7 +305,7 @@ impl<I: Image + Drop> Core<I> {
         self.fetched -= 1;
     }
 
-    /// Ends a fetch without an image.
+    /// Ends a fetch without an image. Steps for each operation that waits for the bundle.
     #[tactic(auto, unfolding(addr_history::specs::Answers::fail_reply, addr_history::specs::Answers::fail_adds))]
     pub fn fail(&mut self, worker: u32, b: BundleNo, cause: Cause) -> Result<(), NotTaken>
         ensures reply { result ≡ fail_reply self.old.history worker b }
@@ -328,7 +333,7 @@ impl<I: Image + Drop> Core<I> {
         self.fetched -= 1;
     }
 
-    /// Accepts no load from now on. False where it was closed before.
+    /// Accepts no load from now on. False where it was closed before. One step.
     #[tactic(auto, unfolding(addr_history::specs::Answers::close_reply, addr_history::specs::Answers::close_adds))]
     pub fn close(&mut self) -> bool
         ensures reply { result ≡ close_reply self.old.history }
@@ -355,7 +360,7 @@ impl<I: Image + Drop> Core<I> {
         self.closed = true;
     }
 
-    /// A bundle's count, and where it is.
+    /// A bundle's count, and where it is. One step.
     pub fn count(&self, b: BundleNo) -> Option<(u32, BundleState)>
         ensures { result ≡ count_reply self.now.rows self.now.history b }
     {

@@ -87,9 +87,6 @@ count_done p b (c ∷ bs) once =
     to_true false = refl
 
 -- a bundle is at one place at most
-one_place : Bool → Bool → Bool → Bool
-one_place r f q = not (r && f) && (not (r && q) && not (f && q))
-
 abbrev pub Apart : Rows → List Event → BundleNo → Type 0
 Apart rows h b = (is_resident rows h b ≡ true → (is_fetched h b ≡ false) × (is_queued rows h b ≡ false)) × (is_fetched h b ≡ true → (is_resident rows h b ≡ false) × (is_queued rows h b ≡ false))
 

@@ -42,9 +42,6 @@ stands_head b bs = ap (λ t. t || stands (b.0 + 1) bs) (eq-eqb (b.0 + 1) (b.0 + 
 pub stands_later : (n : ℕ) (b : BundleNo) (bs : List BundleNo) → stands n bs ≡ true → stands n (b ∷ bs) ≡ true
 stands_later n b bs is = right (eqb (b.0 + 1) n) is
 
-has_later : (n : ℕ) (b : BundleNo) (bs : List BundleNo) → has n bs ≡ true → has n (b ∷ bs) ≡ true
-has_later n b bs is = right (eqb b.0 n) is
-
 other_than : (n : ℕ) (bs : List BundleNo) (x : ℕ) → has n bs ≡ false → has x bs ≡ true → x ≡ n → ⊥
 other_than n bs x none is same = false≢true (sym none ∙ ap (λ k. has k bs) (sym same) ∙ is)
 

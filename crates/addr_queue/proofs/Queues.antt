@@ -12,9 +12,6 @@ use Rattle.addr_queue.proofs.Members.{one_less}
 use Rattle.addr_queue.proofs.Rings.{ring_queue, ring_push, ring_remove, ring_none, ring_first, near_end, near_place}
 
 module _ (room len : ℕ) (next prev : Vec ℕ Global) (kept : IsQueue room len next prev) where
-  bundles : List BundleNo
-  bundles = ordered room next.items
-
   abbrev pub last_read : ℕ → Type 0
   last_read last = last ≡ get_or prev.items 0 last
 
