@@ -4,7 +4,8 @@ use Rattle.std.proofs.lemmas.List.{drop_more, drop_all}
 use Rattle.std.proofs.lemmas.List.Elements.{filter_map-append}
 use Rattle.addr_catalog.specs.Catalogue.{somes}
 use Rattle.addr_catalog.specs.declared.error.CatErr.{CatErr}
-use Rattle.addr_catalog.specs.Steps.{◌>>=◌, read_each}
+use Rattle.addr_reading.specs.Steps.{◌>>=◌}
+use Rattle.addr_catalog.specs.Steps.{read_each}
 
 -- what was read, and what the rest is read as
 abbrev pub behind : {B : Type 0} → List B → Result (List B) CatErr → Result (List B) CatErr

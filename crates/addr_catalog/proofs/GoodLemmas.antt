@@ -1,5 +1,5 @@
 -- What holds of all rows that are read: they are few, and what `of_rows` asks holds of the assets.
-use Rattle.std.proofs.Common.{◌≡◌, ℕ, zero, suc, ◌+◌, ◌≤◌, Bool, true, false, not, ◌&&◌, ◌||◌, List, [], ◌∷◌, ◌++◌, length, filter, Option, Some, None, Result, Ok, Err, inl, inr, refl, ap, ◌∙◌, subst, arith}
+use Rattle.std.proofs.Common.{◌≡◌, ℕ, zero, suc, ◌+◌, ◌≤◌, Bool, true, false, not, ◌&&◌, ◌||◌, List, [], ◌∷◌, ◌++◌, length, filter, Option, Some, None, Result, Ok, inl, inr, refl, ap, ◌∙◌, subst, arith}
 use Rattle.std.specs.List.{list_all, filter_map, flat_map, AllByRecursion, IsDistinct}
 use Rattle.std.specs.Option.{IfSome}
 use Rattle.std.specs.Set.{is_member}
@@ -20,15 +20,11 @@ use Rattle.addr_catalog_json.specs.declared.document.Lists.{Lists}
 use Rattle.addr_catalog.specs.declared.error.CatErr.{CatErr}
 use Rattle.addr_catalog.specs.Catalogue.{somes}
 use Rattle.addr_catalog.specs.Entries.{text_of, key_text_at, keys_holding, with_first, asset_keys, numbers_from, number_at, bundle_lists, dependencies, asset_row, asset_with, asset_unless, asset_read}
-use Rattle.addr_catalog.specs.Steps.{◌>>=◌, read_each}
+use Rattle.addr_reading.proofs.StepLaws.{bind_ok}
+use Rattle.addr_catalog.specs.Steps.{read_each}
 use Rattle.addr_catalog.proofs.AssetLemmas.{IsBelow, AreSound, numbers_below, dependencies_sound, keys_apart}
 
 -- ---- whatever is read of each
-
--- a step after which all went well
-pub bind_ok : {A B : Type 0} (r : Result A CatErr) (f : A → Result B CatErr) (y : B) → (r >>= f) ≡ Ok y → (x : A) × (r ≡ Ok x) × (f x ≡ Ok y)
-bind_ok (Ok x) f y is = (x, refl, is)
-bind_ok (Err e) f y is = absurd (cc)
 
 pub each_long : {A B : Type 0} (read : ℕ → A → Result B CatErr) (place : ℕ) (xs : List A) (ys : List B) → read_each read place xs ≡ Ok ys → length ys ≡ length xs
 unfolding read_each

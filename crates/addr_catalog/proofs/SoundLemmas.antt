@@ -1,10 +1,13 @@
 -- What the rows of tables keep, and what follows for the rows that are read of them.
-use Rattle.std.proofs.Common.{◌≡◌, ℕ, suc, ◌-◌, ◌^◌, true, nat_lt, min, List, [], ◌∷◌, ◌++◌, length, map, Result, Ok, Err, refl, sym, ap, ◌∙◌, subst, arith}
+use Rattle.std.proofs.Common.{◌≡◌, ℕ, suc, ◌-◌, ◌^◌, true, nat_lt, min, List, [], ◌∷◌, length, map, Result, Ok, refl, sym, ap, ◌∙◌, subst, arith}
 use Rattle.std.specs.List.{list_all, AllByRecursion}
 use Rattle.std.proofs.lemmas.Bool.{and_parts, and_from}
 use Rattle.std.proofs.lemmas.Bool.Decides.{nat_tests}
 use Rattle.std.proofs.lemmas.List.{length-map}
-use Rattle.addr_tables.specs.Faults.{rows_read, parts_of, keys_read, entries_read, entry_read, bad_field, row_or, numbers_in, ◌>>=◌}
+use Rattle.addr_reading.specs.Steps.{◌>>=◌}
+use Rattle.addr_reading.proofs.StepLaws.{then_same}
+use Rattle.addr_reading.proofs.ListLaws.{all_same}
+use Rattle.addr_tables.specs.Faults.{rows_read, parts_of, keys_read, entries_read, entry_read, bad_field, row_or, numbers_in}
 use Rattle.addr_tables.specs.Format.{is_within}
 use Rattle.addr_tables.specs.Rows.{StandFor, Beside, IsPlaced}
 use Rattle.addr_tables.specs.declared.error.TableErr.{TableErr}
@@ -30,20 +33,12 @@ entry_capped : (t : Tables) (extras : List ℕ) (keys place : ℕ) (e : Fields) 
 unfolding entry_read
 entry_capped t extras keys place e = ap (row_or extras place e) (field_capped t.internals t.providers keys t.kinds e)
 
-next : {A B : Type 0} (r : Result A TableErr) {f g : A → Result B TableErr} → ((x : A) → f x ≡ g x) → (r >>= f) ≡ (r >>= g)
-next (Ok x) same = same x
-next (Err e) same = refl
-
 entries_capped : (t : Tables) (extras : List ℕ) (keys : ℕ) (before : List EntryRow) (es : List Fields) → entries_read (capped t) extras keys before es ≡ entries_read t extras keys before es
-unfolding entries_read
-entries_capped t extras keys before [] = refl
-entries_capped t extras keys before (e ∷ es) =
-    ap (λ (r : Result EntryRow TableErr). r >>= λ row. entries_read (capped t) extras keys (before ++ row ∷ []) es) (entry_capped t extras keys (length before) e)
-    ∙ next (entry_read t extras keys (length before) e) (λ row. entries_capped t extras keys (before ++ row ∷ []) es)
+entries_capped t extras keys before es = all_same _ _ (λ others e. entry_capped t extras keys (length others) e) before es
 
 pub rows_capped : (t : Tables) → rows_read (capped t) ≡ rows_read t
 unfolding rows_read parts_of
-rows_capped t = next (parts_of t) (λ parts. next (keys_read parts.keys (length parts.entries) [] parts.buckets) (λ keys. ap (λ (r : Result (List EntryRow) TableErr). r >>= λ entries. Ok (record { keys = keys; buckets = map numbers_in parts.buckets; entries = entries })) (entries_capped t parts.extras (length keys) [] parts.entries)))
+rows_capped t = then_same (parts_of t) (λ parts. then_same (keys_read parts.keys (length parts.entries) [] parts.buckets) (λ keys. ap (λ (r : Result (List EntryRow) TableErr). r >>= λ entries. Ok (record { keys = keys; buckets = map numbers_in parts.buckets; entries = entries })) (entries_capped t parts.extras (length keys) [] parts.entries)))
 
 -- ---- what the rows of tables keep
 

@@ -8,7 +8,7 @@ use Rattle.addr_catalog.specs.Catalogue.{catalogue_read}
 use Rattle.addr_catalog.specs.declared.catalogue.Catalogue.{Catalogue}
 use Rattle.addr_catalog.specs.ReadBack.{read_back}
 use Rattle.addr_catalog.specs.ReadsAlike.{ReadsAlike, ReadsBackAlike}
-use Rattle.addr_catalog.specs.Steps.{◌>>=◌}
+use Rattle.addr_reading.specs.Steps.{◌>>=◌}
 use Rattle.addr_catalog.specs.Tables.{tables_of}
 use Rattle.addr_catalog.specs.Written.{table_rows, lists_of, tables_written, strings_in, document_of}
 

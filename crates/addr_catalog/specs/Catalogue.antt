@@ -11,7 +11,8 @@ use Rattle.addr_catalog_json.specs.Document.{document_read}
 use Rattle.addr_catalog.specs.Tables.{tables_of}
 use Rattle.addr_catalog.specs.Entries.{bundle_read, asset_read, numbers_from}
 use Rattle.addr_catalog.specs.FaultsBelow.{of_documents, of_tables}
-use Rattle.addr_catalog.specs.Steps.{◌>>=◌, read_each}
+use Rattle.addr_reading.specs.Steps.{◌>>=◌}
+use Rattle.addr_catalog.specs.Steps.{read_each}
 
 -- those that are there
 abbrev pub somes : {A : Type 0} → List (Option A) → List A

@@ -3,7 +3,7 @@ use Rattle.std.specs.Prelude.{Result, Ok}
 use Rattle.addr_catalog.specs.Catalogue.{locator_read}
 use Rattle.addr_catalog.specs.declared.catalogue.Catalogue.{Catalogue}
 use Rattle.addr_catalog.specs.declared.error.CatErr.{CatErr}
-use Rattle.addr_catalog.specs.Steps.{◌>>=◌}
+use Rattle.addr_reading.specs.Steps.{◌>>=◌}
 use Rattle.addr_catalog.specs.Written.{lists_of, table_rows}
 
 -- what the rows that are written for a catalogue stand for, with the same state

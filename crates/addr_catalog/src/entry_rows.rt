@@ -1,8 +1,9 @@
 // The row of one entry: a bundle's from its options, an asset's from its dependencies.
-ghost use Rattle.std.specs.Prelude.{◌≡◌, IfOk};
-ghost use Rattle.addr_catalog.specs.Entries.{keys_holding, options_of, bundle_row, bundle_lists, bundle_read, asset_row, asset_read};
+ghost use Rattle.std.specs.Prelude.{◌≡◌, IfOk, None, Err};
+ghost use Rattle.addr_catalog.specs.Entries.{role_of, keys_holding, options_of, bundle_row, bundle_lists, bundle_read, asset_row, asset_read};
 ghost use Rattle.addr_catalog.specs.InternalIds.{whole_id};
-ghost use Rattle.addr_catalog.specs.Steps.{Gives};
+ghost use Rattle.addr_reading.specs.Gives.{Gives};
+ghost use Rattle.addr_catalog.specs.declared.error.CatErr.TheVariants as faults;
 ghost use Rattle.addr_locate.specs.Rows.{text_at};
 
 use crate::error::CatErr;
@@ -78,7 +79,9 @@ pub fn read_bundle(
     entry: &EntryRow,
 ) -> Result<Option<BundleRow>, CatErr>
     requires { holding.now ≡ keys_holding rows.now place }
-    ensures { Gives (λ row. row) result (bundle_read lists.now rows.now place entry.now) }
+    ensures exact { Gives faults.NoMemory (λ row. row) result (bundle_read lists.now rows.now place entry.now) }
+    // An unknown provider is told before any memory is asked for.
+    ensures provider { role_of (text_at lists.now.providers entry.now.provider) ≡ None → result ≡ Err (faults.Provider place) }
 {
     match role_of(text_at(lists.providers.as_slice(), entry.provider)) {
         Some(Role::Bundle) => {
@@ -128,7 +131,7 @@ pub fn read_asset(
 ) -> Result<Option<PlainAsset>, CatErr>
     requires held { holding.now ≡ keys_holding rows.now place }
     requires listed { bundles.now.lists ≡ bundle_lists rows.now bundles.now.numbers }
-    ensures { Gives (λ row. row) result (asset_read lists.now rows.now bundles.now.numbers place entry.now) }
+    ensures { Gives faults.NoMemory (λ row. row) result (asset_read lists.now rows.now bundles.now.numbers place entry.now) }
 {
     if number_at(bundles.numbers.as_slice(), place).is_some() {
         return Ok(None);

@@ -28,5 +28,6 @@ mod written_rows;
 pub use bounds::can_write;
 pub use catalogue::Catalogue;
 pub use error::CatErr;
+pub use laws::catalogue_laws;
 pub use reader::read_catalog;
 pub use writer::write_catalog;

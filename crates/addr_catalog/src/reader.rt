@@ -7,7 +7,8 @@ ghost use Rattle.addr_catalog.specs.Catalogue.{somes, locator_read, catalogue_re
 ghost use Rattle.addr_catalog.specs.Tables.{tables_of};
 ghost use Rattle.addr_catalog_json.specs.Document.{document_read};
 ghost use Rattle.addr_catalog.specs.Entries.{keys_holding, bundle_read, asset_read, numbers_from};
-ghost use Rattle.addr_catalog.specs.Steps.{Gives, read_each};
+ghost use Rattle.addr_reading.specs.Gives.{Gives};
+ghost use Rattle.addr_catalog.specs.Steps.{read_each};
 ghost use Rattle.addr_catalog.specs.FaultsBelow.{of_documents, of_tables};
 ghost use Rattle.addr_catalog.specs.TableRows.{AreTableRows, capped};
 ghost use Rattle.addr_tables.specs.Faults.{rows_read};
@@ -52,7 +53,7 @@ fn tables_of(strings: Strings, lists: &Lists) -> Tables
 
 /// The rows of the document's tables.
 fn read_tables(alloc: Global, strings: Strings, lists: &Lists) -> Result<Rows, CatErr>
-    ensures exact { Gives (λ rows. rows) result (of_tables (rows_read (tables_of lists.now strings))) }
+    ensures exact { Gives faults.NoMemory (λ rows. rows) result (of_tables (rows_read (tables_of lists.now strings))) }
     ensures sound { IfOk result AreTableRows }
 {
     let tables = tables_of(strings, lists);
@@ -68,7 +69,7 @@ fn read_bundles(
 ) -> Result<Items<Option<BundleRow>>, CatErr>
     requires few { length rows.now.entries < 2 ^ 31 }
     requires held { keys.now ≡ map (keys_holding rows.now) (range_with_len 0 (length rows.now.entries)) }
-    ensures { Gives (λ bundles. bundles) result (read_each (bundle_read lists.now rows.now) 0 rows.now.entries) }
+    ensures { Gives faults.NoMemory (λ bundles. bundles) result (read_each (bundle_read lists.now rows.now) 0 rows.now.entries) }
 {
     let mut bundles = Items::new(alloc);
     for (i, entry) in rows.entries.as_slice().iter().enumerate() {
@@ -89,7 +90,7 @@ fn read_assets(
     requires few { length rows.now.entries < 2 ^ 31 }
     requires few_bundles { length bundles.now < 2 ^ 31 }
     requires held { keys.now ≡ map (keys_holding rows.now) (range_with_len 0 (length rows.now.entries)) }
-    ensures { Gives (λ assets. assets) result (read_each (asset_read lists.now rows.now (numbers_from 0 bundles.now)) 0 rows.now.entries) }
+    ensures { Gives faults.NoMemory (λ assets. assets) result (read_each (asset_read lists.now rows.now (numbers_from 0 bundles.now)) 0 rows.now.entries) }
 {
     let bundles = number_bundles(alloc, bundles, rows)?;
     let mut assets = Items::new(alloc);
@@ -118,7 +119,7 @@ fn somes<T: Drop>(alloc: Global, items: Items<Option<T>>) -> Result<Vec<T>, NoMe
 #[tactic(auto, unfolding(crate::specs::Catalogue::locator_read))]
 fn read_locator(alloc: Global, lists: &Lists, rows: &Rows) -> Result<Locator, CatErr>
     requires { AreTableRows rows.now }
-    ensures { Gives (λ locator. locator) result (locator_read lists.now rows.now) }
+    ensures { Gives faults.NoMemory (λ locator. locator) result (locator_read lists.now rows.now) }
 {
     let keys = invert(alloc, rows.buckets.as_slice(), rows.entries.len())?;
     let bundles = read_bundles(alloc, lists, rows, &keys)?;
@@ -130,7 +131,7 @@ fn read_locator(alloc: Global, lists: &Lists, rows: &Rows) -> Result<Locator, Ca
 
 #[tactic(auto, unfolding(crate::specs::Catalogue::catalogue_read))]
 fn read(alloc: Global, bytes: &[u8]) -> Result<Catalogue, CatErr>
-    ensures { Gives (λ catalogue. catalogue) result (catalogue_read bytes.now) }
+    ensures { Gives faults.NoMemory (λ catalogue. catalogue) result (catalogue_read bytes.now) }
 {
     let Document {
         lists,
@@ -148,7 +149,7 @@ fn read(alloc: Global, bytes: &[u8]) -> Result<Catalogue, CatErr>
 /// dependencies are looked up.
 pub fn read_catalog(alloc: Global, bytes: &[u8]) -> Result<Catalogue, CatErr>
     // Unless memory was refused, the answer is what the bytes are read as: their catalogue or its first fault.
-    ensures exact { Gives (λ catalogue. catalogue) result (catalogue_read bytes.now) }
+    ensures exact { Gives faults.NoMemory (λ catalogue. catalogue) result (catalogue_read bytes.now) }
     // No fault is want of memory.
     ensures named { catalogue_read bytes.now ≢ Err faults.NoMemory }
 {

@@ -1,5 +1,8 @@
 -- A field that is read is the field that was written, and what was written is read again.
-use Rattle.std.proofs.Common.{◌≡◌, ℕ, suc, ◌+◌, ◌^◌, ◌<◌, ◌≤◌, true, false, ltb, List, [], ◌∷◌, ◌++◌, length, take, drop, Ok, refl, sym, ap, subst, ◌∙◌, append_assoc, arith, inl, inr}
+use Rattle.std.proofs.Common.{◌≡◌, ℕ, suc, ◌+◌, ◌^◌, ◌<◌, ◌≤◌, true, false, ltb, List, [], ◌∷◌, ◌++◌, length, take, drop, Result, Ok, refl, sym, ap, subst, ◌∙◌, append_assoc, arith, inl, inr}
+use Rattle.std.specs.Prelude.{Some, slice_get}
+use Rattle.addr_reading.specs.Steps.{◌>>=◌}
+use Rattle.addr_keys.specs.declared.error.KeyErr.{KeyErr}
 use Rattle.std.specs.Int.{Width, w16, w32, byte_len, from_le_bytes, to_le_bytes}
 use Rattle.std.proofs.lemmas.Bool.{cases_lt, ltb-true, ltb-false, le-ltb, lt-ltb}
 use Rattle.std.proofs.lemmas.List.{take_at, drop_at, take-append-drop, length-append, length-take, get_or-drop, get_or-take, get_or_past}
@@ -7,7 +10,7 @@ use Rattle.std.proofs.lemmas.Nat.{le_bytes_2, le_bytes_4, from_le_bytes-to_le_by
 use Rattle.addr_reading.proofs.StepLaws.{bind_ok, ok_is, chosen, guarded}
 use Rattle.addr_keys.specs.declared.error.KeyErr.TheVariants.{Short, Negative}
 use Rattle.addr_keys.specs.Format.{is_ascii, utf16_bytes, short, long, IsShort, IsLong, IsWide}
-use Rattle.addr_keys.specs.Faults.{byte_at, number_at, length_at, body_at, ascii_of, utf16_of, short_at, ascii_at, utf16_at}
+use Rattle.addr_keys.specs.Faults.{key_first, body_of_kind, byte_at, number_at, length_at, body_at, ascii_of, utf16_of, short_at, ascii_at, utf16_at}
 use Rattle.addr_keys.proofs.BodyLemmas.{IsBytes, ascii_takes, ascii_again, utf16_takes, utf16_again}
 
 pub IsBytes-drop : (n : ℕ) (bytes : List ℕ) → IsBytes bytes → IsBytes (drop n bytes)
@@ -39,6 +42,16 @@ byte_takes (x ∷ bytes) b rest fits e =
 pub byte_again : (b : ℕ) (rest : List ℕ) → byte_at (b ∷ rest) ≡ Ok (b, rest)
 unfolding byte_at
 byte_again b rest = refl
+
+-- the byte that is taken is the first, and the key is one of that kind
+pub byte_first : (bytes : List ℕ) (b : ℕ) (rest : List ℕ) → byte_at bytes ≡ Ok (b, rest) → slice_get bytes 0 ≡ Some b
+unfolding byte_at
+byte_first [] b rest is = absurd cc
+byte_first (x ∷ bytes) b rest is = ap (λ (p : ℕ × List ℕ). Some p.0) (ok_is (x, bytes) (b, rest) is)
+
+pub first_of_kind : (bytes : List ℕ) (kind : ℕ) (rest : List ℕ) → byte_at bytes ≡ Ok (kind, rest) → key_first bytes ≡ body_of_kind kind rest
+unfolding key_first
+first_of_kind bytes kind rest is = ap (λ (r : Result (ℕ × List ℕ) KeyErr). r >>= λ k. body_of_kind k.0 k.1) is
 
 pub record IsNumber (w : Width) (limit : ℕ) : Type 0 where
   pub len : (n : ℕ) → length (to_le_bytes w n) ≡ byte_len w

@@ -149,10 +149,6 @@ is_found bytes at x fits e =
     let cut = cut_of bytes t.text a.0.1 at end t.takes.parts many in
     subst (λ (p : Key × ℕ). KeyAt bytes at p.0 p.1) (ok_is (a.0.0, end) x a.2) (omega arith, omega arith, subst (IsForm a.0.0) (sym cut) t.form)
 
-pub found_of : (bytes : List ℕ) (at : ℕ) (r : Result (Key × ℕ) KeyErr) → IsBytes bytes → Gives NoMemory (λ x. x) r (key_read bytes at) → IfOk r (λ x. KeyAt bytes at x.0 x.1)
-found_of bytes at (Ok x) fits given = is_found bytes at x fits given
-found_of bytes at (Err e) fits given = tt
-
 pub is_read : (bytes : List ℕ) (at : ℕ) (key : Key) (end : ℕ) → KeyAt bytes at key end → key_read bytes at ≡ Ok (key, end)
 unfolding key_read
 is_read bytes at key end is =

@@ -1,5 +1,5 @@
--- A form of a key is bytes, and where it stands among other bytes the key stands: for what writes keys one after the other.
-use Rattle.std.proofs.Common.{◌≡◌, ℕ, zero, suc, ◌+◌, ◌-◌, ◌<◌, true, List, [], ◌∷◌, ◌++◌, length, refl, sym, ap, subst, ◌∙◌, arith, inl, inr}
+-- A form of a key is bytes, and where it stands among other bytes the key stands and is read: for what writes keys.
+use Rattle.std.proofs.Common.{◌≡◌, ℕ, zero, suc, ◌+◌, ◌-◌, ◌<◌, true, List, [], ◌∷◌, ◌++◌, length, Ok, refl, sym, ap, subst, ◌∙◌, arith, inl, inr, append-nil}
 use Rattle.std.specs.Prelude.{slice_range}
 use Rattle.std.specs.List.{flat_map}
 use Rattle.std.specs.Int.{w16, w32, to_le_bytes}
@@ -7,8 +7,10 @@ use Rattle.std.proofs.lemmas.List.{length-append, drop_at, take_at}
 use Rattle.std.proofs.lemmas.List.Concat.{flat_map-cons}
 use Rattle.addr_keys.specs.declared.key.Key.{Key}
 use Rattle.addr_keys.specs.declared.key.Key.TheVariants as keys
-use Rattle.addr_keys.specs.Format.{is_ascii, utf16_units, utf16_bytes, short, long, IsForm, IsShort, KeyAt}
+use Rattle.addr_keys.specs.Faults.{key_read}
+use Rattle.addr_keys.specs.Format.{key_text, is_ascii, utf16_units, utf16_bytes, short, long, IsForm, IsShort, KeyAt}
 use Rattle.addr_keys.proofs.BodyLemmas.{IsBytes}
+use Rattle.addr_keys.proofs.KeyLemmas.{is_read}
 use Rattle.addr_keys.proofs.TextLemmas.{IsAscii-from_test}
 
 IsBytes-cons : (b : ℕ) (bs : List ℕ) → b < 256 → IsBytes bs → IsBytes (b ∷ bs)
@@ -72,3 +74,11 @@ stands_at bytes front form rest key is form-is =
     let many : length front + length form - length front ≡ length form = omega arith in
     let cut : slice_range (front ++ (form ++ rest)) (length front) (length front + length form) ≡ form = rw (many, drop_at front (form ++ rest) (length front) refl) (take_at form rest (length form) refl) in
     (omega arith, omega arith, subst (IsForm key) (sym (ap (λ (x : List ℕ). slice_range x (length front) (length front + length form)) is ∙ cut)) form-is)
+
+-- what is written behind some bytes reads as the key
+pub written_reads : (old new : List ℕ) (key : Key) → new ≡ old ++ key_text key → IsForm key (key_text key) → key_read new (length old) ≡ Ok (key, length new)
+written_reads old new key is form =
+    let front : new ≡ old ++ (key_text key ++ []) = is ∙ ap (λ (x : List ℕ). old ++ x) (sym (append-nil (key_text key))) in
+    let place = stands_at new old (key_text key) [] key front form in
+    let end : length old + length (key_text key) ≡ length new = sym (ap length is ∙ length-append old (key_text key)) in
+    subst (λ (n : ℕ). key_read new (length old) ≡ Ok (key, n)) end (is_read new (length old) key (length old + length (key_text key)) place)

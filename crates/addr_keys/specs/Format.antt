@@ -1,6 +1,6 @@
 -- Serialized keys: what a form of a key is, which form is written, and where one stands among other bytes. The rule is this
 -- project's profile after the key objects of Unity's ContentCatalogData; integers are little-endian.
-use Rattle.std.specs.Prelude.{◌≡◌, ℕ, ◌<◌, ◌≤◌, ◌^◌, Bool, true, List, ◌∷◌, ◌++◌, ◌⊎◌, length, chars, IsUtf8, nat_lt, FitsSigned, if◌then◌else◌, slice_range}
+use Rattle.std.specs.Prelude.{◌≡◌, ℕ, ◌<◌, ◌≤◌, ◌^◌, ◌&&◌, ◌||◌, Bool, true, false, List, Some, nat_le, slice_get, ◌∷◌, ◌++◌, ◌⊎◌, length, chars, IsUtf8, nat_lt, FitsSigned, if◌then◌else◌, slice_range}
 use Rattle.std.specs.List.{flat_map, list_all}
 use Rattle.std.specs.Char.Escape.{encode_utf16}
 use Rattle.std.specs.Int.{w16, w32, to_le_bytes, cast_unsigned}
@@ -70,3 +70,11 @@ IsWritable (Hash text) = IsShort text
 IsWritable (TypeId text) = IsShort text
 IsWritable (Json assembly class text) = IsShort assembly × IsShort class × IsLong (utf16_bytes text)
 IsWritable _ = Unit {0}
+
+-- whether keys of a kind hold a text: a text, a hash, a type id, or an object of a class
+abbrev pub has_text : ℕ → Bool
+has_text kind = nat_lt kind 2 || (nat_le 5 kind && nat_le kind 7)
+
+-- no key that holds a text begins at a place
+abbrev pub HasNoText : List ℕ → ℕ → Type 0
+HasNoText bytes at = (kind : ℕ) → slice_get bytes at ≡ Some kind → has_text kind ≡ false

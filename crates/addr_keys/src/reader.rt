@@ -1,11 +1,11 @@
 // Reading a key: each function takes a field off the front and gives the bytes after it, so that no field carries a place.
 // The place where a key ends is then the length of all bytes without those that are left.
-ghost use Rattle.std.specs.Prelude.{◌≡◌, ◌≢◌, ◌↔◌, ℕ, Ok, Err, IfOk};
+ghost use Rattle.std.specs.Prelude.{◌≡◌, ◌≢◌, ◌↔◌, ℕ, Ok, Err, IfOk, false, slice_get, Some};
 ghost use Rattle.std.specs.Int.{w16, w32};
 ghost use Rattle.addr_keys.specs.declared.key.Key.{Key};
 ghost use Rattle.addr_keys.specs.declared.error.KeyErr.TheVariants as faults;
-ghost use Rattle.addr_keys.specs.Format.{KeyAt};
-ghost use Rattle.addr_reading.specs.Gives.{Gives};
+ghost use Rattle.addr_keys.specs.Format.{KeyAt, HasNoText, has_text};
+ghost use Rattle.addr_reading.specs.Gives.{Gives, Reads};
 ghost use Rattle.addr_keys.specs.Faults.{byte_at, number_at, length_at, body_at, short_at, ascii_at, utf16_at, json_at, body_of_kind, key_first, key_read};
 
 use crate::error::KeyErr;
@@ -16,7 +16,7 @@ use std::alloc::Global;
 
 #[tactic(auto, unfolding(crate::specs::Faults::byte_at))]
 fn byte_of(bytes: &[u8]) -> Result<(u8, &[u8]), KeyErr>
-    ensures { Gives faults.NoMemory (λ x. (x.0, x.1.now)) result (byte_at bytes.now) }
+    ensures { Reads (λ x. (x.0, x.1.now)) result (byte_at bytes.now) }
 {
     match bytes {
         [] => Err(KeyErr::Short),
@@ -26,7 +26,7 @@ fn byte_of(bytes: &[u8]) -> Result<(u8, &[u8]), KeyErr>
 
 #[tactic(auto, unfolding(crate::specs::Faults::number_at))]
 fn u16_of(bytes: &[u8]) -> Result<(u16, &[u8]), KeyErr>
-    ensures { Gives faults.NoMemory (λ x. (x.0, x.1.now)) result (number_at w16 bytes.now) }
+    ensures { Reads (λ x. (x.0, x.1.now)) result (number_at w16 bytes.now) }
 {
     if bytes.len() < 2 {
         return Err(KeyErr::Short);
@@ -37,7 +37,7 @@ fn u16_of(bytes: &[u8]) -> Result<(u16, &[u8]), KeyErr>
 
 #[tactic(auto, unfolding(crate::specs::Faults::number_at))]
 fn u32_of(bytes: &[u8]) -> Result<(u32, &[u8]), KeyErr>
-    ensures { Gives faults.NoMemory (λ x. (x.0, x.1.now)) result (number_at w32 bytes.now) }
+    ensures { Reads (λ x. (x.0, x.1.now)) result (number_at w32 bytes.now) }
 {
     if bytes.len() < 4 {
         return Err(KeyErr::Short);
@@ -49,7 +49,7 @@ fn u32_of(bytes: &[u8]) -> Result<(u32, &[u8]), KeyErr>
 
 #[tactic(auto, unfolding(crate::specs::Faults::length_at))]
 fn length_of(bytes: &[u8]) -> Result<(u32, &[u8]), KeyErr>
-    ensures { Gives faults.NoMemory (λ x. (x.0, x.1.now)) result (length_at bytes.now) }
+    ensures { Reads (λ x. (x.0, x.1.now)) result (length_at bytes.now) }
 {
     let (len, rest) = u32_of(bytes)?;
     if len > i32::MAX as u32 {
@@ -60,7 +60,7 @@ fn length_of(bytes: &[u8]) -> Result<(u32, &[u8]), KeyErr>
 
 #[tactic(auto, unfolding(crate::specs::Faults::body_at))]
 fn body_of(len: usize, bytes: &[u8]) -> Result<(&[u8], &[u8]), KeyErr>
-    ensures { Gives faults.NoMemory (λ x. (x.0.now, x.1.now)) result (body_at len bytes.now) }
+    ensures { Reads (λ x. (x.0.now, x.1.now)) result (body_at len bytes.now) }
 {
     if bytes.len() < len {
         return Err(KeyErr::Short);
@@ -115,7 +115,8 @@ fn json_of(alloc: Global, bytes: &[u8]) -> Result<(Key, &[u8]), KeyErr>
 
 #[tactic(auto, unfolding(crate::specs::Faults::body_of_kind))]
 fn key_of_kind(alloc: Global, kind: u8, bytes: &[u8]) -> Result<(Key, &[u8]), KeyErr>
-    ensures { Gives faults.NoMemory (λ x. (x.0, x.1.now)) result (body_of_kind kind bytes.now) }
+    ensures exact { Gives faults.NoMemory (λ x. (x.0, x.1.now)) result (body_of_kind kind bytes.now) }
+    ensures plain { has_text kind ≡ false → Reads (λ x. (x.0, x.1.now)) result (body_of_kind kind bytes.now) }
 {
     match kind {
         0 => ascii_of(alloc, bytes).map(|(text, rest)| (Key::Text(text), rest)),
@@ -132,7 +133,8 @@ fn key_of_kind(alloc: Global, kind: u8, bytes: &[u8]) -> Result<(Key, &[u8]), Ke
 
 #[tactic(auto, unfolding(crate::specs::Faults::key_first))]
 fn first_key(alloc: Global, bytes: &[u8]) -> Result<(Key, &[u8]), KeyErr>
-    ensures { Gives faults.NoMemory (λ x. (x.0, x.1.now)) result (key_first bytes.now) }
+    ensures exact { Gives faults.NoMemory (λ x. (x.0, x.1.now)) result (key_first bytes.now) }
+    ensures plain { HasNoText bytes.now 0 → Reads (λ x. (x.0, x.1.now)) result (key_first bytes.now) }
 {
     let (kind, rest) = byte_of(bytes)?;
     key_of_kind(alloc, kind, rest)
@@ -140,7 +142,8 @@ fn first_key(alloc: Global, bytes: &[u8]) -> Result<(Key, &[u8]), KeyErr>
 
 #[tactic(auto, unfolding(crate::specs::Faults::key_read))]
 fn key_from(alloc: Global, bytes: &[u8], at: usize) -> Result<(Key, usize), KeyErr>
-    ensures { Gives faults.NoMemory (λ x. x) result (key_read bytes.now at) }
+    ensures exact { Gives faults.NoMemory (λ x. x) result (key_read bytes.now at) }
+    ensures plain { HasNoText bytes.now at → Reads (λ x. x) result (key_read bytes.now at) }
 {
     let tail = bytes.get(at..).unwrap_or(&[]);
     let (key, rest) = first_key(alloc, tail)?;
@@ -155,6 +158,8 @@ pub fn read_key(alloc: Global, bytes: &[u8], at: usize) -> Result<(Key, usize), 
     ensures only { (key : Key) (end : ℕ) → KeyAt bytes.now at key end → Gives faults.NoMemory (λ x. x) result (Ok (key, end)) }
     // Which fault it is, where it is one.
     ensures exact { Gives faults.NoMemory (λ x. x) result (key_read bytes.now at) }
+    // Memory is asked for by keys that hold a text alone: what else stands there is told exactly.
+    ensures plain { HasNoText bytes.now at → Reads (λ x. x) result (key_read bytes.now at) }
     // So at each place stands one key or a first fault, and never both; and no fault is want of memory.
     ensures named { key_read bytes.now at ≢ Err faults.NoMemory }
     ensures law { (key : Key) (end : ℕ) → (KeyAt bytes.now at key end ↔ (key_read bytes.now at ≡ Ok (key, end))) }

@@ -1,8 +1,9 @@
 // Writing a key: each function appends one field. Where memory is refused in the middle of a key, what was begun is still
 // behind the bytes that stood there before, so `write_key` cuts it off again.
-ghost use Rattle.std.specs.Prelude.{◌≡◌, ◌<◌, ◌*◌, ◌^◌, ◌++◌, ◌∷◌, [], length, take, OnOk, OnErr, IsUtf8};
+ghost use Rattle.std.specs.Prelude.{◌≡◌, ◌<◌, ◌*◌, ◌^◌, ◌++◌, ◌∷◌, [], length, take, Ok, OnOk, OnErr, IsUtf8};
 ghost use Rattle.std.specs.Int.{w16, w32, to_le_bytes};
 ghost use Rattle.addr_keys.specs.declared.key.Key.TheVariants as keys;
+ghost use Rattle.addr_keys.specs.Faults.{key_read};
 ghost use Rattle.addr_keys.specs.Format.{utf16_units, utf16_bytes, short, long, key_text, IsForm, IsShort, IsLong, IsWritable};
 
 use crate::key::Key;
@@ -169,8 +170,9 @@ pub fn write_key(key: &Key, into: &mut Vec<u8>) -> Result<(), NoMemory>
     ensures written { OnOk result (into.new.items ≡ into.old.items ++ key_text key.now) }
     // Where memory is refused the bytes are as before.
     ensures same { OnErr result (into.new.items ≡ into.old.items) }
-    // What is written is a form of the key, so it reads back as the key.
+    // What is written is a form of the key, and `read_key` gives the key back, up to the end of the bytes.
     ensures form { OnOk result (IsForm key.now (key_text key.now)) }
+    ensures again { OnOk result (key_read into.new.items (length into.old.items) ≡ Ok (key.now, length into.new.items)) }
 {
     let before = into.len();
     match put_key(into, key) {

@@ -1,7 +1,8 @@
 -- Steps of reading taken apart, no want of memory among their faults, and the one answer that reading gives.
 use Rattle.std.proofs.Common.{◌≡◌, ◌≢◌, inl, inr, Bool, true, false, cond, Option, Some, None, Result, Ok, Err, refl, ap}
+use Rattle.std.specs.Prelude.{IfOk}
 use Rattle.addr_reading.specs.Steps.{◌>>=◌, or_fault}
-use Rattle.addr_reading.specs.Gives.{IsNamed, IsDecided}
+use Rattle.addr_reading.specs.Gives.{Gives, IsNamed, IsDecided}
 
 -- ---- steps taken apart
 
@@ -29,6 +30,16 @@ chosen false fault x y e = absurd cc
 pub guarded : {A E : Type 0} (test : Bool) (fault : E) (r : Result A E) (y : A) → cond test (Err fault) r ≡ Ok y → (test ≡ false) × (r ≡ Ok y)
 guarded true fault r y e = absurd cc
 guarded false fault r y e = (refl, e)
+
+-- a step may be another that gives the same of each value
+pub then_same : {A B E : Type 0} (r : Result A E) {f g : A → Result B E} → ((x : A) → f x ≡ g x) → (r >>= f) ≡ (r >>= g)
+then_same (Ok x) same = same x
+then_same (Err e) same = refl
+
+-- what holds of each value that reading gives holds of what a call answered
+pub if_gives : {X Y E : Type 0} (no_memory : E) (view : X → Y) (P : Y → Type 0) (r : Result X E) (read : Result Y E) → ((y : Y) → read ≡ Ok y → P y) → Gives no_memory view r read → IfOk r (λ x. P (view x))
+if_gives no_memory view P (Ok x) read each given = each (view x) given
+if_gives no_memory view P (Err e) read each given = tt
 
 -- ---- no fault is want of memory
 

@@ -6,6 +6,11 @@ abbrev pub Gives : {X Y E : Type 0} → E → (X → Y) → Result X E → Resul
 Gives no_memory view (Ok x) read = read ≡ Ok (view x)
 Gives no_memory view (Err e) read = e ≢ no_memory → read ≡ Err e
 
+-- the same of a call that takes no memory
+abbrev pub Reads : {X Y E : Type 0} → (X → Y) → Result X E → Result Y E → Type 0
+Reads view (Ok x) read = read ≡ Ok (view x)
+Reads view (Err e) read = read ≡ Err e
+
 -- reading gives no want of memory
 abbrev pub IsNamed : {A E : Type 0} → E → Result A E → Type 0
 IsNamed no_memory read = read ≢ Err no_memory

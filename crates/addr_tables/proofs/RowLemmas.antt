@@ -19,9 +19,10 @@ use Rattle.addr_tables.specs.declared.rows.Tables.{Tables}
 use Rattle.addr_tables.specs.declared.parts.Bucket.{Bucket}
 use Rattle.addr_tables.specs.declared.parts.Fields.{Fields}
 use Rattle.addr_tables.specs.Format.{nothing, is_within, is_same_key}
+use Rattle.addr_reading.specs.Lists.{read_all}
 use Rattle.addr_tables.specs.Faults.{new_key, bucket_key, bucket_read, keys_read, bad_field, extra_or, extra_read, row_of, row_or, entry_read, entries_read}
 use Rattle.addr_tables.specs.Rows.{Beside, AreDistinct, IsKeyOf, IsPlaced, AreNamed, IsExtra, IsRow}
-use Rattle.addr_tables.proofs.Steps.{bind_ok, ok_is, chosen}
+use Rattle.addr_reading.proofs.StepLaws.{bind_ok, ok_is, chosen}
 
 -- ---- equal keys
 
@@ -104,7 +105,7 @@ bucket_key_taken bytes before b key fits e = by_test (ltb b.offset (2 ^ 31)) ref
 
 pub keys_again : (bytes : List ℕ) (count : ℕ) (before : List Key) (bs : List Bucket) (ks : List Key) → Beside (IsKeyOf bytes) bs ks → AllByRecursion (λ k. IsForm k (key_text k)) before → AreDistinct (before ++ ks)
     → AllByRecursion (IsPlaced count) bs → keys_read bytes count before bs ≡ Ok (before ++ ks)
-unfolding keys_read
+unfolding read_all
 keys_again bytes count before [] [] keys forms distinct placed = ap (λ (l : List Key). Ok l) (sym (append-nil before))
 keys_again bytes count before [] (k ∷ ks) keys forms distinct placed = absurd keys
 keys_again bytes count before (b ∷ bs) [] keys forms distinct placed = absurd keys
@@ -123,7 +124,7 @@ pub record MoreKeys (bytes : List ℕ) (count : ℕ) (before : List Key) (bs : L
   pub placed : AllByRecursion (λ b. list_all (is_within count) b.numbers ≡ true) bs
 
 pub keys_taken : (bytes : List ℕ) (count : ℕ) (before : List Key) (bs : List Bucket) (all : List Key) → IsBytes bytes → AreDistinct before → keys_read bytes count before bs ≡ Ok all → MoreKeys bytes count before bs all
-unfolding keys_read bucket_read
+unfolding read_all bucket_read
 keys_taken bytes count before [] all fits distinct e =
     subst (MoreKeys bytes count before []) (ok_is before all e) (record { more = []; all_are = sym (append-nil before); keys = tt; distinct = distinct; placed = tt })
 keys_taken bytes count before (b ∷ bs) all fits distinct e =
@@ -208,7 +209,7 @@ entry_taken tables extras keys place e row fits is = row_or_taken tables extras 
 -- ---- all rows
 
 pub entries_again : (tables : Tables) (extras : List ℕ) (keys : ℕ) (before : List EntryRow) (es : List Fields) (rows : List EntryRow) → Beside (IsRow tables extras keys) es rows → entries_read tables extras keys before es ≡ Ok (before ++ rows)
-unfolding entries_read
+unfolding read_all
 entries_again tables extras keys before [] [] is = ap (λ (l : List EntryRow). Ok l) (sym (append-nil before))
 entries_again tables extras keys before [] (r ∷ rs) is = absurd is
 entries_again tables extras keys before (e ∷ es) [] is = absurd is
@@ -221,7 +222,7 @@ pub record MoreRows (tables : Tables) (extras : List ℕ) (keys : ℕ) (before :
   pub rows : Beside (IsRow tables extras keys) es more
 
 pub entries_taken : (tables : Tables) (extras : List ℕ) (keys : ℕ) (before : List EntryRow) (es : List Fields) (all : List EntryRow) → IsBytes extras → entries_read tables extras keys before es ≡ Ok all → MoreRows tables extras keys before es all
-unfolding entries_read
+unfolding read_all
 entries_taken tables extras keys before [] all fits e =
     subst (MoreRows tables extras keys before []) (ok_is before all e) (record { more = []; all_are = sym (append-nil before); rows = tt })
 entries_taken tables extras keys before (f ∷ fs) all fits e =

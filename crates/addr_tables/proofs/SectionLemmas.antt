@@ -11,10 +11,12 @@ use Rattle.addr_tables.specs.declared.error.TableErr.TheVariants as errors
 use Rattle.addr_tables.specs.declared.parts.Bucket.{Bucket}
 use Rattle.addr_tables.specs.declared.parts.Fields.{Fields}
 use Rattle.addr_tables.specs.Format.{table_of, bucket_numbers, field_numbers, bucket_table, entry_table}
+use Rattle.addr_reading.specs.Lists.{read_times}
 use Rattle.addr_tables.specs.Faults.{numbers_of, count_first, bucket_first, buckets_first, buckets_of, fields_of, entries_of, key_count}
 use Rattle.addr_tables.specs.Rows.{AreNumbers}
 use Rattle.addr_keys.proofs.FieldLemmas.{IsBytes-take}
-use Rattle.addr_tables.proofs.Steps.{bind_ok, ok_is, chosen, guarded, both_true, numbers_again, even_table, table_again, numbers_small}
+use Rattle.addr_reading.proofs.StepLaws.{bind_ok, ok_is, chosen, guarded}
+use Rattle.addr_tables.proofs.Steps.{both_true, numbers_again, even_table, table_again, numbers_small}
 
 numbers-append : (xs ys : List ℕ) → AreNumbers (xs ++ ys) → AreNumbers xs × AreNumbers ys
 numbers-append [] ys all = (tt, all)
@@ -69,7 +71,7 @@ pub record MoreBuckets (n : ℕ) (before : List Bucket) (numbers : List ℕ) (al
   pub few : AllByRecursion IsFew more
 
 buckets_taken : (n : ℕ) (before : List Bucket) (numbers : List ℕ) (x : List Bucket × List ℕ) → buckets_first n before numbers ≡ Ok x → MoreBuckets n before numbers x.0 x.1
-unfolding buckets_first
+unfolding read_times
 buckets_taken zero before numbers x e =
     subst (λ (y : List Bucket × List ℕ). MoreBuckets 0 before numbers y.0 y.1) (ok_is (before, numbers) x e)
     (record { more = []; all_are = sym (append-nil before); spelled = refl; many = refl; few = tt })
@@ -87,7 +89,7 @@ buckets_taken (suc n) before numbers x e =
     }
 
 buckets_again : (bs : List Bucket) (before : List Bucket) (rest : List ℕ) → AllByRecursion IsFew bs → buckets_first (length bs) before (flat_map bucket_numbers bs ++ rest) ≡ Ok (before ++ bs, rest)
-unfolding buckets_first
+unfolding read_times
 buckets_again [] before rest few = ap (λ (l : List Bucket). Ok (l, rest)) (sym (append-nil before))
 buckets_again (b ∷ bs) before rest few =
     let regrouped : flat_map bucket_numbers (b ∷ bs) ++ rest ≡ bucket_numbers b ++ (flat_map bucket_numbers bs ++ rest) =

@@ -1,5 +1,5 @@
 -- The sizes of tables as sums over the rows: what is measured is what is written.
-use Rattle.std.proofs.Common.{◌≡◌, ℕ, suc, ◌+◌, ◌*◌, ◌<◌, ◌^◌, ◌↔◌, ◌&&◌, nat_lt, IsTrue, true, false, List, [], ◌∷◌, ◌++◌, length, sum_by, refl, ap, ◌∙◌, arith, length-append}
+use Rattle.std.proofs.Common.{◌≡◌, ℕ, ◌+◌, ◌*◌, ◌<◌, ◌^◌, ◌↔◌, ◌&&◌, nat_lt, IsTrue, true, List, [], ◌∷◌, length, sum_by, refl, ap, ◌∙◌, arith, length-append}
 use Rattle.std.specs.List.{flat_map}
 use Rattle.std.specs.Int.{w32, to_le_bytes}
 use Rattle.std.proofs.lemmas.Bool.{and_parts, ltb-true, lt-ltb}

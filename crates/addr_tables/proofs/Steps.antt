@@ -1,5 +1,5 @@
--- One step after another, and numbers in bytes both ways.
-use Rattle.std.proofs.Common.{◌≡◌, ℕ, zero, suc, ◌%◌, ◌^◌, ◌<◌, Bool, true, false, cond, List, [], ◌∷◌, ◌++◌, length, Result, Ok, Err, refl, sym, ap, subst, ◌∙◌, arith}
+-- Texts, and numbers in bytes both ways.
+use Rattle.std.proofs.Common.{◌≡◌, ℕ, zero, suc, ◌%◌, ◌^◌, ◌<◌, Bool, true, false, List, [], ◌∷◌, ◌++◌, length, Result, Ok, Err, refl, sym, ap, subst, ◌∙◌, arith}
 use Rattle.std.specs.Prelude.{◌&&◌}
 use Rattle.std.specs.List.{flat_map}
 use Rattle.std.specs.Int.{w32, to_le_bytes, from_le_bytes}
@@ -10,30 +10,11 @@ use Rattle.base64.specs.Engines.{standard}
 use Rattle.base64.specs.declared.decode.DecodeError.{DecodeError}
 use Rattle.base64.proofs.EngineFacts.{decode_of-encode_of, decode_of_strict}
 use Rattle.addr_keys.proofs.PlaceLemmas.{IsBytes-append, four_bytes}
-use Rattle.addr_tables.specs.declared.error.TableErr.{TableErr}
+use Rattle.addr_reading.proofs.StepLaws.{ok_is}
 use Rattle.addr_tables.specs.Format.{table_of}
-use Rattle.addr_tables.specs.Faults.{◌>>=◌, bytes_or, text_bytes, numbers_of}
+use Rattle.addr_tables.specs.Faults.{bytes_or, text_bytes, numbers_of}
 use Rattle.addr_tables.specs.Rows.{AreNumbers}
 use Rattle.addr_tables.proofs.TextLemmas.{decoded_is_bytes}
-
--- the value of a step that did not fail
-pub bind_ok : {A B : Type 0} (r : Result A TableErr) (f : A → Result B TableErr) (y : B) → (r >>= f) ≡ Ok y → (x : A) × (r ≡ Ok x) × (f x ≡ Ok y)
-bind_ok (Ok x) f y e = (x, refl, e)
-bind_ok (Err d) f y e = absurd cc
-
-abbrev done : {A : Type 0} → A → Result A TableErr
-done x = Ok x
-
-pub ok_is : {A : Type 0} (x y : A) → done x ≡ done y → x ≡ y
-ok_is x y e = cc
-
-pub chosen : {A : Type 0} (t : Bool) (d : TableErr) (x y : A) → cond t (Ok x) (Err d) ≡ Ok y → (t ≡ true) × (x ≡ y)
-chosen true d x y e = (refl, cc)
-chosen false d x y e = absurd cc
-
-pub guarded : {A : Type 0} (t : Bool) (d : TableErr) (x : Result A TableErr) (y : A) → cond t (Err d) x ≡ Ok y → (t ≡ false) × (x ≡ Ok y)
-guarded true d x y e = absurd cc
-guarded false d x y e = (refl, e)
 
 pub both_true : (a b : Bool) → (a && b) ≡ true → (a ≡ true) × (b ≡ true)
 both_true true b e = (refl, e)

@@ -1,21 +1,20 @@
 -- The two laws of decoding: what is decoded is what the tables stand for, and what they stand for is decoded.
-use Rattle.std.proofs.Common.{◌≡◌, ℕ, true, eqb, List, [], ◌∷◌, length, map, Result, Ok, Err, refl, sym, ap, subst, ◌∙◌, eq-eqb}
-use Rattle.std.specs.Prelude.{IfOk}
+use Rattle.std.proofs.Common.{◌≡◌, ℕ, true, eqb, List, [], ◌∷◌, length, map, Ok, refl, sym, ap, subst, ◌∙◌, eq-eqb}
 use Rattle.std.specs.List.{list_all, AllByRecursion}
 use Rattle.std.specs.Int.{w32, to_le_bytes}
 use Rattle.std.proofs.lemmas.Bool.{eqb-true}
 use Rattle.base64.specs.GeneralPurpose.{encode_of}
 use Rattle.base64.specs.Engines.{standard}
-use Rattle.addr_tables.specs.declared.error.TableErr.{TableErr}
 use Rattle.addr_tables.specs.declared.error.TableErr.TheVariants as errors
 use Rattle.addr_tables.specs.declared.rows.Rows.{Rows}
 use Rattle.addr_tables.specs.declared.rows.Tables.{Tables}
 use Rattle.addr_tables.specs.declared.parts.Bucket.{Bucket}
 use Rattle.addr_tables.specs.declared.parts.Parts.{Parts}
 use Rattle.addr_tables.specs.Format.{bucket_table, entry_table, is_within}
-use Rattle.addr_tables.specs.Faults.{Gives, text_bytes, key_count, buckets_of, entries_of, parts_of, keys_read, entries_read, numbers_in, rows_read}
+use Rattle.addr_tables.specs.Faults.{text_bytes, key_count, buckets_of, entries_of, parts_of, keys_read, entries_read, numbers_in, rows_read}
 use Rattle.addr_tables.specs.Rows.{IsPlaced, AreSpelled, AreTexts, StandFor}
-use Rattle.addr_tables.proofs.Steps.{bind_ok, ok_is, chosen, text_taken, text_holds_bytes, text_again, IsBytes-table}
+use Rattle.addr_reading.proofs.StepLaws.{bind_ok, ok_is, chosen}
+use Rattle.addr_tables.proofs.Steps.{text_taken, text_holds_bytes, text_again, IsBytes-table}
 use Rattle.addr_tables.proofs.SectionLemmas.{IsFew, bucket_table_taken, bucket_table_again, entry_table_taken, entry_table_again, key_count_taken, key_count_again}
 use Rattle.addr_tables.proofs.RowLemmas.{keys_again, keys_taken, all_keys, all_rows, entries_again, entries_taken}
 
@@ -100,10 +99,6 @@ is_found tables rows texts e =
       buckets = refl;
       entries = all_rows tables parts.extras (length k.0) parts.entries r.0 entries;
     })
-
-pub found_of : (tables : Tables) (r : Result Rows TableErr) → AreTexts tables → Gives (λ x. x) r (rows_read tables) → IfOk r (λ rows. StandFor tables rows)
-found_of tables (Ok rows) texts given = is_found tables rows texts given
-found_of tables (Err e) texts given = tt
 
 pub is_read : (tables : Tables) (rows : Rows) → StandFor tables rows → rows_read tables ≡ Ok rows
 unfolding rows_read

@@ -1,10 +1,12 @@
 -- What reading four tables gives, test after test: the rows, or the first fault that is met.
-use Rattle.std.specs.Prelude.{◌≡◌, ◌≢◌, ℕ, zero, suc, ◌*◌, ◌^◌, ◌%◌, not, List, [], ◌∷◌, ◌++◌, length, take, drop, map, Option, Some, None, Result, Ok, Err, nat_lt, nat_le, ◌==◌, ◌&&◌, ◌||◌, if◌then◌else◌}
+use Rattle.std.specs.Prelude.{ℕ, ◌*◌, ◌^◌, ◌%◌, not, List, [], ◌∷◌, length, take, drop, map, Option, Some, None, Result, Ok, Err, nat_lt, nat_le, ◌==◌, ◌&&◌, ◌||◌, if◌then◌else◌}
 use Rattle.std.specs.List.{list_all, list_any}
 use Rattle.std.specs.Int.{w32, from_le_bytes, cast_signed}
 use Rattle.base64.specs.declared.decode.DecodeError.{DecodeError}
 use Rattle.base64.specs.GeneralPurpose.{decode_of}
 use Rattle.base64.specs.Engines.{standard}
+use Rattle.addr_reading.specs.Steps.{◌>>=◌}
+use Rattle.addr_reading.specs.Lists.{read_all, read_times}
 use Rattle.addr_keys.specs.declared.key.Key.{Key}
 use Rattle.addr_keys.specs.declared.error.KeyErr.{KeyErr}
 use Rattle.addr_keys.specs.Faults.{key_read}
@@ -17,17 +19,6 @@ use Rattle.addr_tables.specs.declared.parts.Parts.{Parts}
 use Rattle.addr_tables.specs.declared.error.TableErr.{TableErr}
 use Rattle.addr_tables.specs.declared.error.TableErr.TheVariants as errors
 use Rattle.addr_tables.specs.Format.{nothing, is_within, is_same_key}
-
--- one step after another, up to the first that fails
-infixl 10 ◌>>=◌
-abbrev pub ◌>>=◌ : {A B : Type 0} → Result A TableErr → (A → Result B TableErr) → Result B TableErr
-(Ok x) >>= f = f x
-(Err e) >>= f = Err e
-
--- what a call answered, seen by a view, is what reading gives, unless memory was refused
-abbrev pub Gives : {X Y : Type 0} → (X → Y) → Result X TableErr → Result Y TableErr → Type 0
-Gives view (Ok x) read = read ≡ Ok (view x)
-Gives view (Err e) read = e ≢ errors.NoMemory → read ≡ Err e
 
 -- ---- texts and tables
 
@@ -56,11 +47,8 @@ bucket_first (offset ∷ n ∷ rest) =
 bucket_first _ = Err (errors.Short 1)
 
 -- so many buckets, behind those that were read
-unfoldable pub buckets_first : ℕ → List Bucket → List ℕ → Result (List Bucket × List ℕ) TableErr
-buckets_first zero before rest = Ok (before, rest)
-buckets_first (suc n) before rest = do
-  first ← bucket_first rest
-  buckets_first n (before ++ first.0 ∷ []) first.1
+abbrev pub buckets_first : ℕ → List Bucket → List ℕ → Result (List Bucket × List ℕ) TableErr
+buckets_first n before numbers = read_times (λ others rest. bucket_first rest) n before numbers
 
 -- the buckets of a table, all of its bytes
 unfoldable pub buckets_of : List ℕ → Result (List Bucket) TableErr
@@ -120,11 +108,8 @@ bucket_read keys count before b = do
   if list_all (is_within count) b.numbers then Ok key else Err (errors.Place (length before))
 
 -- the keys of buckets, behind those that were read
-unfoldable pub keys_read : List ℕ → ℕ → List Key → List Bucket → Result (List Key) TableErr
-keys_read keys count before [] = Ok before
-keys_read keys count before (b ∷ bs) = do
-  key ← bucket_read keys count before b
-  keys_read keys count (before ++ key ∷ []) bs
+abbrev pub keys_read : List ℕ → ℕ → List Key → List Bucket → Result (List Key) TableErr
+keys_read keys count before bs = read_all (bucket_read keys count) before bs
 
 -- the first field of an entry that names nothing, of so many internal ids, providers, keys and kinds
 unfoldable pub bad_field : ℕ → ℕ → ℕ → ℕ → Fields → Option ℕ
@@ -169,11 +154,8 @@ unfoldable pub entry_read : Tables → List ℕ → ℕ → ℕ → Fields → R
 entry_read tables extras keys place e = row_or extras place e (bad_field tables.internals tables.providers keys tables.kinds e)
 
 -- the rows of entries, behind those that were read
-unfoldable pub entries_read : Tables → List ℕ → ℕ → List EntryRow → List Fields → Result (List EntryRow) TableErr
-entries_read tables extras keys before [] = Ok before
-entries_read tables extras keys before (e ∷ es) = do
-  row ← entry_read tables extras keys (length before) e
-  entries_read tables extras keys (before ++ row ∷ []) es
+abbrev pub entries_read : Tables → List ℕ → ℕ → List EntryRow → List Fields → Result (List EntryRow) TableErr
+entries_read tables extras keys before es = read_all (λ others. entry_read tables extras keys (length others)) before es
 
 abbrev pub numbers_in : Bucket → List ℕ
 numbers_in b = b.numbers

@@ -1,6 +1,6 @@
 -- The rows that four tables stand for, as one relation over whole tables: the tables are spelled by some parts, and each key
 -- and each row is what the parts say, whatever the order of the objects in the key and extra tables.
-use Rattle.std.specs.Prelude.{◌≡◌, ◌≢◌, ℕ, ◌<◌, ◌^◌, true, List, [], ◌∷◌, length, take, map, Option, Some, None, Ok, nat_lt, ◌==◌, ◌||◌}
+use Rattle.std.specs.Prelude.{◌≡◌, ◌≢◌, ℕ, ◌<◌, ◌^◌, true, List, [], ◌∷◌, length, take, map, Option, Some, None, nat_lt, ◌==◌, ◌||◌}
 use Rattle.std.specs.List.{flat_map, list_all, AllByRecursion}
 use Rattle.std.specs.Int.{w32, to_le_bytes}
 use Rattle.base64.specs.GeneralPurpose.{encode_of, IsBytes}

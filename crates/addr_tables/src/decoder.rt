@@ -8,7 +8,8 @@ ghost use Rattle.base64.specs.GeneralPurpose.{IsBytes};
 ghost use Rattle.std.specs.List.{list_all};
 ghost use Rattle.addr_keys.specs.declared.key.Key.{Key};
 ghost use Rattle.addr_tables.specs.Format.{is_within};
-ghost use Rattle.addr_tables.specs.Faults.{Gives, bucket_key, bucket_read, keys_read, bad_field, extra_read, row_of, entry_read, entries_read, numbers_in, rows_read};
+ghost use Rattle.addr_reading.specs.Gives.{Gives};
+ghost use Rattle.addr_tables.specs.Faults.{bucket_key, bucket_read, keys_read, bad_field, extra_read, row_of, entry_read, entries_read, numbers_in, rows_read};
 ghost use Rattle.addr_tables.specs.Seen.{HasForms};
 
 use crate::error::TableErr;
@@ -36,7 +37,7 @@ fn bucket_key(
     place: u32,
     bucket: &Bucket,
 ) -> Result<Key, TableErr>
-    ensures exact { (before : List Key) → HasForms seen.old before → length before ≡ place → Gives (λ k. k) result (bucket_key bytes.now before bucket.now) }
+    ensures exact { (before : List Key) → HasForms seen.old before → length before ≡ place → Gives errors.NoMemory (λ k. k) result (bucket_key bytes.now before bucket.now) }
     ensures more { (before : List Key) → HasForms seen.old before → IfOk result (λ key. HasForms seen.new (before ++ key ∷ [])) }
 {
     if bucket.offset >= FIRST_NEGATIVE {
@@ -63,7 +64,7 @@ fn bucket_read(
     bucket: &Bucket,
 ) -> Result<Key, TableErr>
     requires { length parts.now.entries < 2 ^ 32 }
-    ensures exact { (before : List Key) → HasForms seen.old before → length before ≡ place → Gives (λ k. k) result (bucket_read parts.now.keys (length parts.now.entries) before bucket.now) }
+    ensures exact { (before : List Key) → HasForms seen.old before → length before ≡ place → Gives errors.NoMemory (λ k. k) result (bucket_read parts.now.keys (length parts.now.entries) before bucket.now) }
     ensures more { (before : List Key) → HasForms seen.old before → IfOk result (λ key. HasForms seen.new (before ++ key ∷ [])) }
 {
     let key = bucket_key(alloc, parts.keys.as_slice(), seen, place, bucket)?;
@@ -82,7 +83,7 @@ fn are_within(bound: u32, numbers: &[u32]) -> bool
 fn keys_of(alloc: Global, parts: &Parts) -> Result<Vec<Key>, TableErr>
     requires few { length parts.now.entries < 2 ^ 32 }
     requires fewer { length parts.now.buckets < 2 ^ 32 }
-    ensures exact { Gives (λ v. v.items) result (keys_read parts.now.keys (length parts.now.entries) [] parts.now.buckets) }
+    ensures exact { Gives errors.NoMemory (λ v. v.items) result (keys_read parts.now.keys (length parts.now.entries) [] parts.now.buckets) }
     ensures many { IfOk result (λ v. vec_len v ≡ length parts.now.buckets) }
 {
     let mut keys = Vec::new(alloc);
@@ -118,7 +119,7 @@ fn bad_field(tables: &Tables, keys: u32, fields: &Fields) -> Option<u8>
 
 #[tactic(auto, unfolding(crate::specs::Faults::extra_read))]
 fn extra_of(alloc: Global, extras: &[u8], place: u32, offset: u32) -> Result<Option<Key>, TableErr>
-    ensures { Gives (λ e. e) result (extra_read extras.now place offset) }
+    ensures { Gives errors.NoMemory (λ e. e) result (extra_read extras.now place offset) }
 {
     if offset == NOTHING {
         return Ok(None);
@@ -158,7 +159,7 @@ fn entry_of(
     place: u32,
     fields: &Fields,
 ) -> Result<EntryRow, TableErr>
-    ensures { Gives (λ r. r) result (entry_read tables.now extras.now keys place fields.now) }
+    ensures { Gives errors.NoMemory (λ r. r) result (entry_read tables.now extras.now keys place fields.now) }
 {
     if let Some(field) = bad_field(tables, keys, fields) {
         return Err(TableErr::Index {
@@ -177,7 +178,7 @@ fn entries_of(
     keys: u32,
 ) -> Result<Vec<EntryRow>, TableErr>
     requires { length parts.now.entries < 2 ^ 32 }
-    ensures { Gives (λ v. v.items) result (entries_read tables.now parts.now.extras keys [] parts.now.entries) }
+    ensures { Gives errors.NoMemory (λ v. v.items) result (entries_read tables.now parts.now.extras keys [] parts.now.entries) }
 {
     let mut rows = Vec::new(alloc);
     for fields in parts.entries.as_slice() {
@@ -207,7 +208,7 @@ fn bucket_numbers(bucket: Bucket) -> Items<u32>
 
 #[tactic(auto, unfolding(crate::specs::Faults::rows_read))]
 fn rows_of(alloc: Global, tables: &Tables) -> Result<Rows, TableErr>
-    ensures { Gives (λ rows. rows) result (rows_read tables.now) }
+    ensures { Gives errors.NoMemory (λ rows. rows) result (rows_read tables.now) }
 {
     let parts = parts_of(alloc, tables)?;
     let keys = keys_of(alloc, &parts)?;
@@ -239,9 +240,9 @@ pub fn decode(alloc: Global, tables: &Tables) -> Result<Rows, TableErr>
     // The tables stand for what is decoded.
     ensures found { IfOk result (λ rows. StandFor tables.now rows) }
     // What the tables stand for is decoded, unless memory is refused.
-    ensures only { (rows : Rows) → StandFor tables.now rows → Gives (λ r. r) result (Ok rows) }
+    ensures only { (rows : Rows) → StandFor tables.now rows → Gives errors.NoMemory (λ r. r) result (Ok rows) }
     // Which fault it is, where it is one.
-    ensures exact { Gives (λ rows. rows) result (rows_read tables.now) }
+    ensures exact { Gives errors.NoMemory (λ rows. rows) result (rows_read tables.now) }
     // So tables stand for one list of rows or have a first fault, and never both; and no fault is want of memory.
     ensures named { rows_read tables.now ≢ Err errors.NoMemory }
     ensures law { (rows : Rows) → (StandFor tables.now rows ↔ (rows_read tables.now ≡ Ok rows)) }

@@ -1,7 +1,9 @@
 // The tables as numbers: a table's bytes become its numbers first, so that rows are cut from numbers and not from bytes.
 // No room is taken on the word of a count: a list grows row by row, and a bucket's numbers are cut from those that are there.
 ghost use Rattle.std.specs.Prelude.{◌≡◌, ℕ, ◌*◌, ◌^◌, ◌∷◌, [], ◌<◌, length, take, vec_len, IfOk, IfSome, MatchOption};
-ghost use Rattle.addr_tables.specs.Faults.{Gives, text_bytes, numbers_of, count_first, bucket_first, buckets_first, buckets_of, fields_of, entries_of, key_count, parts_of};
+ghost use Rattle.addr_reading.specs.Gives.{Gives};
+ghost use Rattle.addr_tables.specs.declared.error.TableErr.TheVariants as errors;
+ghost use Rattle.addr_tables.specs.Faults.{text_bytes, numbers_of, count_first, bucket_first, buckets_first, buckets_of, fields_of, entries_of, key_count, parts_of};
 
 use crate::error::TableErr;
 use crate::parts::{Bucket, FIRST_NEGATIVE, Fields, Parts};
@@ -13,7 +15,7 @@ use std::alloc::Global;
 
 #[tactic(auto, unfolding(crate::specs::Faults::text_bytes))]
 fn text_bytes(alloc: Global, which: u8, text: &Text) -> Result<Vec<u8>, TableErr>
-    ensures { Gives (λ v. v.items) result (text_bytes which text.now) }
+    ensures { Gives errors.NoMemory (λ v. v.items) result (text_bytes which text.now) }
 {
     match STANDARD.decode(alloc, text.as_bytes()) {
         Ok(bytes) => Ok(bytes),
@@ -37,7 +39,7 @@ fn numbers_of(alloc: Global, bytes: &[u8]) -> Result<Vec<u32>, NoMemory>
 
 #[tactic(auto, unfolding(crate::specs::Faults::count_first))]
 fn count_of(which: u8, numbers: &[u32]) -> Result<(u32, &[u32]), TableErr>
-    ensures { Gives (λ x. (x.0, x.1.now)) result (count_first which numbers.now) }
+    ensures { Gives errors.NoMemory (λ x. (x.0, x.1.now)) result (count_first which numbers.now) }
 {
     match numbers {
         [count, rest @ ..] if *count < FIRST_NEGATIVE => Ok((*count, rest)),
@@ -47,7 +49,7 @@ fn count_of(which: u8, numbers: &[u32]) -> Result<(u32, &[u32]), TableErr>
 
 #[tactic(auto, unfolding(crate::specs::Faults::bucket_first))]
 fn bucket_of(alloc: Global, numbers: &[u32]) -> Result<(Bucket, &[u32]), TableErr>
-    ensures { Gives (λ x. (x.0, x.1.now)) result (bucket_first numbers.now) }
+    ensures { Gives errors.NoMemory (λ x. (x.0, x.1.now)) result (bucket_first numbers.now) }
 {
     let [offset, count, rest @ ..] = numbers else {
         return Err(TableErr::Short { which: 1 });
@@ -68,7 +70,7 @@ fn buckets_after(
     count: u32,
     numbers: &[u32],
 ) -> Result<(Vec<Bucket>, &[u32]), TableErr>
-    ensures exact { Gives (λ x. (x.0.items, x.1.now)) result (buckets_first count [] numbers.now) }
+    ensures exact { Gives errors.NoMemory (λ x. (x.0.items, x.1.now)) result (buckets_first count [] numbers.now) }
     ensures many { IfOk result (λ x. vec_len x.0 ≡ count) }
 {
     let mut buckets = Vec::new(alloc);
@@ -83,7 +85,7 @@ fn buckets_after(
 
 #[tactic(auto, unfolding(crate::specs::Faults::buckets_of))]
 fn buckets_of(alloc: Global, bytes: &[u8]) -> Result<Vec<Bucket>, TableErr>
-    ensures exact { Gives (λ v. v.items) result (buckets_of bytes.now) }
+    ensures exact { Gives errors.NoMemory (λ v. v.items) result (buckets_of bytes.now) }
     ensures few { IfOk result (λ v. vec_len v < 2 ^ 32) }
 {
     let numbers = numbers_of(alloc, bytes)?;
@@ -139,7 +141,7 @@ fn fields_of(alloc: Global, numbers: &[u32]) -> Result<Vec<Fields>, NoMemory>
 
 #[tactic(auto, using(crate::proofs::FieldLemmas::fields_few), unfolding(crate::specs::Faults::entries_of))]
 fn entries_of(alloc: Global, bytes: &[u8]) -> Result<Vec<Fields>, TableErr>
-    ensures exact { Gives (λ v. v.items) result (entries_of bytes.now) }
+    ensures exact { Gives errors.NoMemory (λ v. v.items) result (entries_of bytes.now) }
     ensures few { IfOk result (λ v. vec_len v < 2 ^ 32) }
 {
     let numbers = numbers_of(alloc, bytes)?;
@@ -157,7 +159,7 @@ fn entries_of(alloc: Global, bytes: &[u8]) -> Result<Vec<Fields>, TableErr>
 
 #[tactic(auto, unfolding(crate::specs::Faults::key_count))]
 fn key_count(alloc: Global, keys: &[u8]) -> Result<u32, TableErr>
-    ensures { Gives (λ n. n) result (key_count keys.now) }
+    ensures { Gives errors.NoMemory (λ n. n) result (key_count keys.now) }
 {
     let front = keys.get(..4).unwrap_or(keys);
     let numbers = numbers_of(alloc, front)?;
@@ -167,7 +169,7 @@ fn key_count(alloc: Global, keys: &[u8]) -> Result<u32, TableErr>
 
 #[tactic(auto, unfolding(crate::specs::Faults::parts_of))]
 pub fn parts_of(alloc: Global, tables: &Tables) -> Result<Parts, TableErr>
-    ensures exact { Gives (λ p. p) result (parts_of tables.now) }
+    ensures exact { Gives errors.NoMemory (λ p. p) result (parts_of tables.now) }
     ensures few { IfOk result (λ p. length p.entries < 2 ^ 32) }
     ensures fewer { IfOk result (λ p. length p.buckets < 2 ^ 32) }
 {

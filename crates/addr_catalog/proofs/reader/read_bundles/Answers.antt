@@ -20,14 +20,14 @@ returns-in_err-bundle c =
     let entries = c.args.rows.now.entries in
     let small : c.loop-i.i < length entries = omega (arith, ap length c.as_slice-entry-items.ensures) in
     let is = c.entry-item.is ∙ ap (λ (es : List EntryRow). get_or es c.loop-i.i c.entry-item.result) c.as_slice-entry-items.ensures in
-    rw (p.1, p.2) (λ ne. each_fails (bundle_read c.args.lists.now c.args.rows.now) entries c.loop-i.i c.entry-item.result c.loop-i.bundles c.in_err-bundle.field-0.0 _ small (ap (bundle_read c.args.lists.now c.args.rows.now c.loop-i.i) (sym is) ∙ c.in_err-bundle.ensures ne) c.loop-i.invariant)
+    rw (p.1, p.2) (λ ne. each_fails (bundle_read c.args.lists.now c.args.rows.now) entries c.loop-i.i c.entry-item.result c.loop-i.bundles c.in_err-bundle.field-0.0 _ small (ap (bundle_read c.args.lists.now c.args.rows.now c.loop-i.i) (sym is) ∙ c.in_err-bundle.ensures.exact ne) c.loop-i.invariant)
 
 pub loop-i-preserved : goal.loop-i-preserved
 loop-i-preserved c =
     let entries = c.args.rows.now.entries in
     let small : c.loop-i.i < length entries = omega (arith, ap length c.as_slice-entry-items.ensures) in
     let is = c.entry-item.is ∙ ap (λ (es : List EntryRow). get_or es c.loop-i.i c.entry-item.result) c.as_slice-entry-items.ensures in
-    rw c.in_ok-push.ensures.ok (each_read (bundle_read c.args.lists.now c.args.rows.now) entries c.loop-i.i c.entry-item.result c.loop-i.bundles c.in_ok-bundle.bundle _ small (ap (bundle_read c.args.lists.now c.args.rows.now c.loop-i.i) (sym is) ∙ c.in_ok-bundle.ensures) c.loop-i.invariant)
+    rw c.in_ok-push.ensures.ok (each_read (bundle_read c.args.lists.now c.args.rows.now) entries c.loop-i.i c.entry-item.result c.loop-i.bundles c.in_ok-bundle.bundle _ small (ap (bundle_read c.args.lists.now c.args.rows.now c.loop-i.i) (sym is) ∙ c.in_ok-bundle.ensures.exact) c.loop-i.invariant)
 
 pub returns : goal.returns
 returns c = each_done (bundle_read c.args.lists.now c.args.rows.now) c.args.rows.now.entries c.loop-i.i c.loop-i.bundles _ (omega (arith, ap length c.as_slice-entry-items.ensures)) c.loop-i.invariant
