@@ -1,6 +1,7 @@
 // One request of a connection is answered: heard, judged, looked for in the depot, and written. The file isn't copied:
 // its head and its bytes are two puts.
 ghost use Rattle.std.specs.Prelude.{◌≡◌, ◌≤◌, ◌++◌, MatchOption, IsNone, IsSomeAnd, IfOk, length, List, ℕ};
+ghost use Rattle.addr_base.specs.Files.{SameStore};
 ghost use Rattle.addr_base.specs.Faults.{Rose};
 ghost use Rattle.addr_wire.specs.Connections.{Puts};
 ghost use Rattle.addr_http.specs.Heads.{room};
@@ -31,13 +32,13 @@ pub enum Served {
 /// Answers one request of a connection, with the file `<folder>/remote/<name>` of the depot where it asks for one. It
 /// takes 8 KiB, 128 KiB while it reads the head's fields, and the file.
 pub fn answer<D: Depot, C: Conn>(alloc: Global, depot: &mut D, folder: &str, conn: &mut C) -> Served
-    ensures told { Tells folder.now (D.files depot.old) (D.faults depot.old) (D.faults depot.new)
+    ensures told { Tells folder.now (D.now depot.old).files (D.now depot.old).faults (D.now depot.new).faults
         (C.now conn.old) (C.now conn.new) result }
     ensures no_more { Told (ReadsEnough (C.now conn.new).last) (C.now conn.old).left (C.now conn.new).left }
-    ensures failed { result ≡ Served.Answered 500 → Rose (D.faults depot.old) (D.faults depot.new) }
+    ensures failed { result ≡ Served.Answered 500 → Rose (D.now depot.old).faults (D.now depot.new).faults }
     ensures cause { Causes (C.now conn.old) (C.now conn.new) result }
-    ensures same { D.files depot.new ≡ D.files depot.old }
-    ensures later { D.faults depot.old ≤ D.faults depot.new }
+    ensures same { SameStore (D.now depot.old) (D.now depot.new) }
+    ensures later { (D.now depot.old).faults ≤ (D.now depot.new).faults }
 {
     match vec![in alloc; 0u8; 8192] {
         Ok(mut buffer) => answer_in(alloc, depot, folder, conn, &mut buffer),
@@ -53,13 +54,13 @@ fn answer_in<D: Depot, C: Conn>(
     buffer: &mut [u8],
 ) -> Served
     requires { length buffer.old ≡ room }
-    ensures told { Tells folder.now (D.files depot.old) (D.faults depot.old) (D.faults depot.new)
+    ensures told { Tells folder.now (D.now depot.old).files (D.now depot.old).faults (D.now depot.new).faults
         (C.now conn.old) (C.now conn.new) result }
     ensures no_more { Told (ReadsEnough (C.now conn.new).last) (C.now conn.old).left (C.now conn.new).left }
-    ensures failed { result ≡ Served.Answered 500 → Rose (D.faults depot.old) (D.faults depot.new) }
+    ensures failed { result ≡ Served.Answered 500 → Rose (D.now depot.old).faults (D.now depot.new).faults }
     ensures cause { Causes (C.now conn.old) (C.now conn.new) result }
-    ensures same { D.files depot.new ≡ D.files depot.old }
-    ensures later { D.faults depot.old ≤ D.faults depot.new }
+    ensures same { SameStore (D.now depot.old) (D.now depot.new) }
+    ensures later { (D.now depot.old).faults ≤ (D.now depot.new).faults }
 {
     match hear(conn, buffer) {
         Ok(heard) => serve(alloc, depot, folder, conn, heard, buffer),
@@ -79,12 +80,12 @@ fn serve<D: Depot, C: Conn>(
     requires { IsInside buffer.now heard }
     ensures told { MatchOption (C.now conn.old).written (IsNone (C.now conn.new).written) (λ old.
         IsSomeAnd (C.now conn.new).written (λ new.
-        ServesHeard buffer.now heard folder.now (D.files depot.old) (D.faults depot.old) (D.faults depot.new)
+        ServesHeard buffer.now heard folder.now (D.now depot.old).files (D.now depot.old).faults (D.now depot.new).faults
         old new result)) }
-    ensures failed { result ≡ Served.Answered 500 → Rose (D.faults depot.old) (D.faults depot.new) }
+    ensures failed { result ≡ Served.Answered 500 → Rose (D.now depot.old).faults (D.now depot.new).faults }
     ensures cause { SinkCauses (C.now conn.old).sink_faults (C.now conn.new).sink_faults result }
-    ensures same { D.files depot.new ≡ D.files depot.old }
-    ensures later { D.faults depot.old ≤ D.faults depot.new }
+    ensures same { SameStore (D.now depot.old) (D.now depot.new) }
+    ensures later { (D.now depot.old).faults ≤ (D.now depot.new).faults }
     ensures source { KeepsSource (C.now conn.old) (C.now conn.new) }
 {
     let Ok(asked) = asked_in(alloc, heard, buffer) else {
@@ -113,9 +114,9 @@ fn reply<D: Depot>(
     folder: &str,
     asked: &Asked,
 ) -> Result<Reply, NoMemory>
-    ensures told { IfOk result (Replies folder.now (D.files depot.old) (D.faults depot.old) (D.faults depot.new) asked.now) }
-    ensures same { D.files depot.new ≡ D.files depot.old }
-    ensures later { D.faults depot.old ≤ D.faults depot.new }
+    ensures told { IfOk result (Replies folder.now (D.now depot.old).files (D.now depot.old).faults (D.now depot.new).faults asked.now) }
+    ensures same { SameStore (D.now depot.old) (D.now depot.new) }
+    ensures later { (D.now depot.old).faults ≤ (D.now depot.new).faults }
 {
     match asked {
         Asked::TooLarge => Ok(Reply::TooLarge),
@@ -133,10 +134,10 @@ fn look<D: Depot>(
     head_only: bool,
     name: &str,
 ) -> Result<Reply, NoMemory>
-    ensures told { IfOk result (Replies folder.now (D.files depot.old) (D.faults depot.old) (D.faults depot.new)
+    ensures told { IfOk result (Replies folder.now (D.now depot.old).files (D.now depot.old).faults (D.now depot.new).faults
         (Wants head_only name.now)) }
-    ensures same { D.files depot.new ≡ D.files depot.old }
-    ensures later { D.faults depot.old ≤ D.faults depot.new }
+    ensures same { SameStore (D.now depot.old) (D.now depot.new) }
+    ensures later { (D.now depot.old).faults ≤ (D.now depot.new).faults }
 {
     let path = format!(in alloc; "{folder}/remote/{name}")?;
     match depot.read(alloc, path.as_str()) {

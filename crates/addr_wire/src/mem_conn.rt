@@ -1,7 +1,7 @@
 // A connection in memory, for tests: its peer sends what it is told to send, it keeps what is put, and it fails at the
 // calls that it is told to fail at. Calls are numbered from 1 on over both sides.
 ghost use Rattle.std.specs.Prelude.{◌≡◌, ◌<◌, ◌≤◌, ◌↔◌, [], true, length, min, IfOk, IsErr, OnErr, Some, vec_len};
-ghost use Rattle.addr_base.specs.Memory.{IsCounted, IsFresh, fails_next};
+ghost use Rattle.addr_base.specs.Plans.{IsCounted, IsFresh, fails_next};
 
 use crate::conn::Conn;
 use crate::copying::copy_front;

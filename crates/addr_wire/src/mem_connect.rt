@@ -1,6 +1,6 @@
 // A connector in memory, for tests: each conversation gives the same bytes, and the calls that it is told to fail at fail.
 ghost use Rattle.std.specs.Prelude.{◌≡◌, ◌==◌, ◌&&◌, ◌||◌, ◌<◌, ◌≤◌, ◌↔◌, Some, IsErr, OnErr, IfOk, length, nat_lt, true, vec_len};
-ghost use Rattle.addr_base.specs.Memory.{IsCounted, IsFresh, fails_next};
+ghost use Rattle.addr_base.specs.Plans.{IsCounted, IsFresh, fails_next};
 
 use crate::connect::Connect;
 use crate::copying::copy_front;

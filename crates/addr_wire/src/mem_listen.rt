@@ -2,7 +2,7 @@
 // that were finished. Beside each connection it has a copy from the start on, so that no call after `new` takes memory.
 ghost use Rattle.std.specs.Prelude.{◌≡◌, ◌≢◌, ◌+◌, ◌<◌, ◌≤◌, ◌⊎◌, ◌↔◌, [], ◌∷◌, ◌++◌, true, Some, None, IfOk, IfSome, IsErr, OnOk, length, map, take, drop, vec_len, vec_capacity};
 ghost use Rattle.std.specs.Option.{ForSome};
-ghost use Rattle.addr_base.specs.Memory.{IsCounted, IsFresh, fails_next};
+ghost use Rattle.addr_base.specs.Plans.{IsCounted, IsFresh, fails_next};
 ghost use Rattle.addr_wire.specs.MemConnections.{conn_now, count_after};
 
 use crate::listen::Listen;
