@@ -170,3 +170,7 @@ collects_refused took total space left room p q r old mid new s m = record {
   told = gave_on s.gave m.gave old mid new s.told m.told;
   over = tt;
 }
+
+-- a piece that was refused
+pub pours_refused : {P : Type 0} (took : P → List ℕ → Type 0) (p q : P) → ((fed : List ℕ) → took p fed → took q fed) → Pours took p q []
+pours_refused took p q refused fed h = subst (λ (t : List ℕ). took q t) (sym (append-nil fed)) (refused fed h)

@@ -11,8 +11,8 @@ use Rattle.addr_http.specs.Pours.{Pours}
 use Rattle.addr_http.specs.Targets.{Address, request_text}
 use Rattle.addr_http.specs.declared.outcome.Outcome.{Outcome}
 use Rattle.addr_http.specs.declared.outcome.Outcome.TheVariants.{Whole as Got, Missing as NotThere, Refused as OtherStatus, TooLong as Longer, Unreadable, NoMemory as NoRoom}
-use Rattle.addr_http.specs.declared.pour.Poured.{Poured}
-use Rattle.addr_http.specs.declared.pour.Poured.TheVariants.{Whole, Missing, Refused, TooLong, Fault, NoMemory}
+use Rattle.addr_fetch.specs.declared.fetch.Poured.{Poured}
+use Rattle.addr_fetch.specs.declared.fetch.Poured.TheVariants.{Whole, Missing, Refused, TooLong, Fault, NoMemory}
 use Rattle.addr_http.proofs.CollectingLemmas.{pours_none}
 
 sizes_of : (limit : ℕ) (r : Result Outcome FailedType) (answer : Poured) (poured : List ℕ) (own now : ℕ) → AnsweredBy r answer own now → Sizes limit r poured → SizesOf limit answer poured

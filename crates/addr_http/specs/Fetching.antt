@@ -10,8 +10,8 @@ use Rattle.addr_http.specs.Targets.{Address, request_text}
 use Rattle.addr_http.specs.declared.http_fetch.HttpFetch.{HttpFetch}
 use Rattle.addr_http.specs.declared.outcome.Outcome.{Outcome}
 use Rattle.addr_http.specs.declared.outcome.Outcome.TheVariants.{Whole as Got, Missing as NotThere, Refused as OtherStatus, TooLong as Longer, Unreadable, NoMemory as NoRoom}
-use Rattle.addr_http.specs.declared.pour.Poured.{Poured}
-use Rattle.addr_http.specs.declared.pour.Poured.TheVariants.{Whole, Missing, Refused, TooLong, Fault, NoMemory}
+use Rattle.addr_fetch.specs.declared.fetch.Poured.{Poured}
+use Rattle.addr_fetch.specs.declared.fetch.Poured.TheVariants.{Whole, Missing, Refused, TooLong, Fault, NoMemory}
 
 -- a fetcher: its connector, and how often what came was no answer that can be read
 pub record HttpNow : Type 0 where

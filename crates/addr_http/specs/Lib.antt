@@ -5,6 +5,8 @@ pub mod Collecting
 pub mod Conversations
 pub mod Fetching
 pub mod Fronts
+pub mod Giving
+pub mod GivingRules
 pub mod Heads
 pub mod Hearing
 pub mod Pours

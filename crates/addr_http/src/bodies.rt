@@ -8,8 +8,8 @@ ghost use Rattle.addr_http.specs.declared.headed.Said.TheVariants.{Open, Sized};
 use crate::collecting::{Collected, collect, pour_front};
 use crate::headed::Said;
 use crate::outcome::Outcome;
-use crate::pour::Pour;
 use addr_base::{Failed, NoMemory};
+use addr_fetch::Pour;
 use addr_wire::Connect;
 
 /// Pours a body of which the bytes of the buffer from `len` to `at` are there: at most so many bytes of it, and until

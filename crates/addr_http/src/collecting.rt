@@ -4,8 +4,8 @@ ghost use Rattle.addr_wire.specs.Counts.{Counts};
 ghost use Rattle.addr_http.specs.Collecting.{Collects, Receives};
 ghost use Rattle.addr_http.specs.Pours.{Pours};
 
-use crate::pour::Pour;
 use addr_base::{Failed, NoMemory};
+use addr_fetch::Pour;
 use addr_wire::Connect;
 
 /// What one receive brought to a pourer.

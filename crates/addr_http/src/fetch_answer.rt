@@ -3,8 +3,8 @@ ghost use Rattle.std.specs.Prelude.{◌≡◌};
 ghost use Rattle.addr_http.specs.Fetching.{AnsweredBy, IfFault, sum_of};
 
 use crate::outcome::Outcome;
-use crate::pour::Poured;
 use addr_base::Failed;
+use addr_fetch::Poured;
 
 /// The answer by how a conversation ended; the own count rises where what came can't be read.
 pub fn answer_of(outcome: Result<Outcome, Failed>, connector: u64, own: &mut u64) -> Poured

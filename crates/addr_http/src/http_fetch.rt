@@ -9,9 +9,9 @@ ghost use Rattle.addr_http.specs.Targets.{address_in, request_text};
 use crate::fetch_answer::answer_of;
 use crate::fetching::{Request, ask};
 use crate::outcome::Outcome;
-use crate::pour::{Pour, Poured};
 use crate::targets::{Target, as_text, request_with, target_in};
 use addr_base::{Failed, NoMemory};
+use addr_fetch::{Fetch, Pour, Poured};
 use addr_wire::Connect;
 use std::alloc::Global;
 
@@ -40,7 +40,7 @@ impl<C: Connect> HttpFetch<C> {
 
     /// Pours the file that an id leads to, of at most so many bytes, each piece as a receive gives it. After any answer
     /// but `Whole` a front of a body may have been poured.
-    pub fn fetch_to<P: Pour>(
+    pub fn fetch_into<P: Pour>(
         &mut self,
         alloc: Global,
         internal_id: &str,
@@ -59,6 +59,29 @@ impl<C: Connect> HttpFetch<C> {
             Some(outcome) => answer_of(outcome, self.conn.count(), &mut self.own),
         }
     }
+}
+
+impl<C: Connect> Fetch for HttpFetch<C> {
+    ghost use Rattle.std.specs.Prelude.{None};
+    ghost use Rattle.addr_http.specs.Fetching.{http_count, http_now};
+    ghost use Rattle.addr_http.specs.Giving.{HttpGives};
+    ghost use Rattle.addr_http.specs.GivingRules.{keeps_rules};
+
+    ghost now = { λ fetch. record { files = None; faults = http_count (http_now C.now fetch) } };
+
+    ghost gives = { HttpGives C.now };
+
+    fn fetch_to<P: Pour>(
+        &mut self,
+        alloc: Global,
+        internal_id: &str,
+        limit: u64,
+        into: &mut P,
+    ) -> Poured {
+        self.fetch_into(alloc, internal_id, limit, into)
+    }
+
+    ghost keeps = { keeps_rules C.now };
 }
 
 /// Asks where an id leads, if it is one over HTTP.

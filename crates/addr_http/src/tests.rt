@@ -1,7 +1,8 @@
 // What no clause says: requests and answers as other programs write them, whole, in small pieces and cut short, and that
 // each call succeeds where memory is ample.
-use crate::{HttpFetch, Pour, Poured, Served, answer};
+use crate::{HttpFetch, Served, answer};
 use addr_base::{Items, MemDepot, MemFile, NoMemory, Text};
+use addr_fetch::{Collected, Fetch, Poured};
 use addr_wire::{MemConn, MemConnect};
 use std::alloc::Global;
 use std::test::Fail;
@@ -107,27 +108,6 @@ fn answers_a_head_without_end(rt: HostRuntime) -> Result<(), Fail> {
     Ok(())
 }
 
-/// Keeps what is poured.
-#[derive(Drop)]
-struct Kept {
-    bytes: Vec<u8>,
-}
-
-impl Pour for Kept {
-    ghost use Rattle.std.specs.Prelude.{◌≡◌};
-
-    type Fixed = ();
-
-    ghost took = { λ kept fed. kept.bytes.items ≡ fed };
-
-    ghost fixed = { λ _. tt };
-
-    fn pour(&mut self, piece: &[u8]) -> Result<(), NoMemory> {
-        self.bytes.extend_from_slice(piece)?;
-        Ok(())
-    }
-}
-
 #[test]
 fn fetches_what_is_given(rt: HostRuntime) -> Result<(), Fail> {
     for (given, want, body) in [
@@ -165,14 +145,12 @@ fn fetches_what_is_given(rt: HostRuntime) -> Result<(), Fail> {
         let answer = Vec::from_slice(rt.alloc(), given.as_bytes())?;
         let conn = MemConnect::new(rt.alloc(), answer, Vec::new(rt.alloc())).in_pieces(2);
         let mut fetch = HttpFetch::new(conn);
-        let mut kept = Kept {
-            bytes: Vec::new(rt.alloc()),
-        };
+        let mut kept = Collected::new(rt.alloc());
         assert_eq!(rt;
             fetch.fetch_to(rt.alloc(), "http://x:81/remote/a", 5, &mut kept),
             want
         );
-        assert_eq!(rt; kept.bytes.as_slice(), body.as_bytes());
+        assert_eq!(rt; kept.into_items().as_slice(), body.as_bytes());
         assert_eq!(rt;
             fetch.connector().sent(),
             b"GET /remote/a HTTP/1.1\r\nHost: x:81\r\nConnection: close\r\n\r\n".as_slice()
@@ -193,9 +171,7 @@ fn fetches_where_the_connector_fails(rt: HostRuntime) -> Result<(), Fail> {
         let answer = Vec::from_slice(rt.alloc(), FILE.as_bytes())?;
         let fails = Vec::from_slice(rt.alloc(), &[call])?;
         let mut fetch = HttpFetch::new(MemConnect::new(rt.alloc(), answer, fails));
-        let mut kept = Kept {
-            bytes: Vec::new(rt.alloc()),
-        };
+        let mut kept = Collected::new(rt.alloc());
         assert_eq!(rt; fetch.fetch_to(rt.alloc(), id, 5, &mut kept), want);
     }
     Ok(())

@@ -2,7 +2,7 @@ use Rattle.std.proofs.Common.{◌≡◌, ap}
 use Rattle.addr_http.specs.Fetching.{HttpNow}
 use Rattle.addr_http.specs.Targets.{address_in}
 use Rattle.addr_http.proofs.FetchLemmas.{counts_by, fetches, fetches_none, not_asked}
-use Rattle.addr_http.proofs.http_fetch.HttpFetch.fetch_to.Goals as goal
+use Rattle.addr_http.proofs.http_fetch.HttpFetch.fetch_into.Goals as goal
 
 pub returns-in-None-clause-fetches : goal.returns-in-None-clause-fetches
 returns-in-None-clause-fetches g c =
