@@ -4,7 +4,7 @@ ghost use Rattle.std.specs.List.{AllByRecursion};
 ghost use Rattle.addr_unityfs.specs.Spelling.{signature};
 ghost use Rattle.addr_unityfs.specs.Format.{AreBytes, IsBundle};
 ghost use Rattle.addr_unityfs.specs.Faults.{Head, Layout, header_read, layout_read, behind_read, bundle_read};
-ghost use Rattle.addr_unityfs.specs.Written.{CanWrite, IsTyped, ReadsBack, written};
+ghost use Rattle.addr_unityfs.specs.Written.{CanWrite, IsTyped, ReadsBack, written, written_len};
 ghost use Rattle.addr_unityfs.specs.Sizes.{size_of, file_size};
 ghost use Rattle.addr_unityfs.specs.Early.{early_at, fault_of, version_in, is_other_version};
 ghost use Rattle.addr_unityfs.specs.declared.bundle.NodeOut.{NodeOut};
@@ -29,7 +29,8 @@ pub fn bundle_laws()
     ensures back { (player : List ℕ) (nodes : List NodeOut) → CanWrite player nodes
         → AllByRecursion IsTyped nodes → ReadsBack (written player nodes) nodes }
     ensures size { (player : List ℕ) (nodes : List NodeOut)
-        → length (written player nodes) ≡ file_size (length player) (map size_of nodes) }
+        → (length (written player nodes) ≡ file_size (length player) (map size_of nodes))
+        × (written_len player nodes ≡ file_size (length player) (map size_of nodes)) }
 {}
 
 /// A fault that is told is the first fault of each file of that length that begins with these bytes; it stays told, and
