@@ -14,7 +14,7 @@ use Rattle.addr_unityfs.specs.Faults.{number_at, signature_at, version_at, head_
 use Rattle.addr_unityfs.specs.Early.{told, fault_of, early_of, early_at, version_in, is_other_version}
 use Rattle.addr_unityfs.specs.within.Stages.{told_stage, done_stage, laid_stage, header_stage, stage_of, fault_in, is_bad}
 use Rattle.addr_unityfs.specs.within.Kept.{Kept, kept_with}
-use Rattle.addr_unityfs.proofs.ReadLaws.{bundle_named}
+use Rattle.addr_unityfs.proofs.NamedLaws.{bundle_named}
 use Rattle.addr_unityfs.proofs.EarlyLaws.{early_is_first}
 use Rattle.addr_unityfs.proofs.StageLaws.{stage_fault, bad_stays}
 use Rattle.addr_unityfs.proofs.TookLaws.{take-append, early_exact}

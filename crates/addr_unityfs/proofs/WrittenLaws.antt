@@ -17,7 +17,7 @@ use Rattle.addr_unityfs.specs.Format.{NoZero, IsBlock, IsNode, IsFile, bundle_of
 use Rattle.addr_unityfs.specs.Written.{placed, plain_block, blocks_of, data_of, unpadded, written_parts, written_len, written, CanWrite, IsTyped, node_read, ReadsBack}
 use Rattle.addr_unityfs.specs.within.Lengths.{row_len, bytes_len}
 use Rattle.addr_unityfs.proofs.Regroup.{after_four}
-use Rattle.addr_unityfs.proofs.ReadLaws.{is_read}
+use Rattle.addr_unityfs.proofs.AgainLaws.{is_read}
 use Rattle.addr_unityfs.proofs.WrittenLengths.{lengths}
 use Rattle.addr_unityfs.proofs.WrittenRows.{length-placed}
 

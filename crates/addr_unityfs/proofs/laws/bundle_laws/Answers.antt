@@ -1,5 +1,5 @@
 use Rattle.addr_unityfs.proofs.Promises.{is_bundle, nodes_inside, bundle_or_fault, not_both, one_bundle}
-use Rattle.addr_unityfs.proofs.ReadLaws.{bundle_named}
+use Rattle.addr_unityfs.proofs.NamedLaws.{bundle_named}
 use Rattle.addr_unityfs.proofs.WrittenLaws.{reads_back, size_is, written_size}
 use Rattle.addr_unityfs.proofs.laws.bundle_laws.Goals as goal
 
