@@ -6,10 +6,10 @@ use Rattle.addr_unityfs.specs.declared.bundle.NodePlace.{NodePlace}
 use Rattle.addr_unityfs.specs.Flags.{is_at_end, data_gap}
 use Rattle.addr_unityfs.specs.Spelling.{Block, Parts, block, node, info, header, contents, body}
 use Rattle.addr_unityfs.specs.Format.{contents_start, IsFile, bundle_of}
-use Rattle.addr_unityfs.specs.Faults.{Head, Layout, Tail, place, whole, part, head_at, header_read, header_fault, laid, layout_at, layout_read, info_at, data_at, range_fault, behind_read, bundle_read}
+use Rattle.addr_unityfs.specs.Faults.{Head, Sections, Tail, place, whole, part, head_at, header_read, header_fault, laid, sections_at, sections_read, info_at, data_at, range_fault, behind_read, bundle_read}
 use Rattle.addr_unityfs.proofs.RowLaws.{size_of, AreRows, distinct_rows}
 use Rattle.addr_unityfs.proofs.HeadLaws.{head_again, sound_again}
-use Rattle.addr_unityfs.proofs.SectionLaws.{layout_again, Again, cut_again, info_again, data_again}
+use Rattle.addr_unityfs.proofs.SectionLaws.{sections_again, Again, cut_again, info_again, data_again}
 use Rattle.addr_unityfs.proofs.Ranges.{within_again, rows_from}
 
 -- each row takes bytes, so that rows that stand in few bytes are few
@@ -42,8 +42,8 @@ header_again : (file : List ℕ) (h : Head) (after : Tail) (at : ℕ) → head_a
 unfolding header_read
 header_again file h after at read is_at = rw read (ap (λ n. Ok (h, n)) is_at)
 
-places_again : (len : ℕ) (h : Head) (at : ℕ) (l : Layout) → header_fault len h ≡ None → layout_at len h at ≡ Ok l → layout_read len h at ≡ Ok l
-unfolding layout_read
+places_again : (len : ℕ) (h : Head) (at : ℕ) (l : Sections) → header_fault len h ≡ None → sections_at len h at ≡ Ok l → sections_read len h at ≡ Ok l
+unfolding sections_read
 places_again len h at l sound laid_out = rw (sound, laid_out) refl
 
 pub is_read : (file : List ℕ) (p : Parts) → length file < 2 ^ 63 → IsFile file p → bundle_read file ≡ Ok (bundle_of (length file) p)
@@ -64,8 +64,8 @@ is_read file p small f =
     in
     let read_header : header_read file ≡ Ok (h, length front) = header_again file h after (length front) read_head (omega (arith, len, body_len, length-append p.padding behind)) in
     let no_fault : header_fault end h ≡ None = sound_again end h (record { size = refl; combined = f.combined; kind = f.kind; same = refl }) in
-    let l : Layout = laid (is_at_end p.flags) end (length (info p)) (length front + length p.padding) in
-    let read_places : layout_read end h (length front) ≡ Ok l = places_again end h (length front) l no_fault (layout_again end h (length front) (length p.padding) f.padding (omega (arith, len))) in
+    let l : Sections = laid (is_at_end p.flags) end (length (info p)) (length front + length p.padding) in
+    let read_places : sections_read end h (length front) ≡ Ok l = places_again end h (length front) l no_fault (sections_again end h (length front) (length p.padding) f.padding (omega (arith, len))) in
     let both : length (front ++ p.padding) ≡ length front + length p.padding = length-append front p.padding in
     let split : file ≡ (front ++ p.padding) ++ body p = f.bytes ∙ sym (append_assoc front p.padding (body p)) in
     let cut : Again (is_at_end p.flags) (front ++ p.padding) (contents p) (info p) file l =

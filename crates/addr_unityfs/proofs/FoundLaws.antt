@@ -8,18 +8,18 @@ use Rattle.addr_unityfs.specs.declared.bundle.Bundle.{Bundle}
 use Rattle.addr_unityfs.specs.Flags.{is_at_end, header_gap, data_gap}
 use Rattle.addr_unityfs.specs.Spelling.{Parts, signature, ended, info, header, body}
 use Rattle.addr_unityfs.specs.Format.{IsNode, contents_start, IsFile, IsBundle}
-use Rattle.addr_unityfs.specs.Faults.{Head, Layout, Tail, place, whole, part, unless, head_at, header_read, header_fault, layout_at, layout_read, info_at, data_at, range_fault, behind_read, bundle_read}
+use Rattle.addr_unityfs.specs.Faults.{Head, Sections, Tail, place, whole, part, unless, head_at, header_read, header_fault, sections_at, sections_read, info_at, data_at, range_fault, behind_read, bundle_read}
 use Rattle.addr_unityfs.proofs.FieldLaws.{IsBytes, IsBytes-drop, IsBytes-take, bind_ok, unless_ok, ok_is}
 use Rattle.addr_unityfs.proofs.RowLaws.{rows_fit, rows_distinct}
 use Rattle.addr_unityfs.proofs.HeadLaws.{head_bytes, HeadTaken, head_takes, IsSound, header_sound}
-use Rattle.addr_unityfs.proofs.SectionLaws.{between, info_bytes, Cut, cut_takes, IsLaid, layout_takes, InfoTaken, info_takes, DataTaken, data_takes}
+use Rattle.addr_unityfs.proofs.SectionLaws.{between, info_bytes, Cut, cut_takes, IsLaid, sections_takes, InfoTaken, info_takes, DataTaken, data_takes}
 use Rattle.addr_unityfs.proofs.Ranges.{nodes_within}
 
 abbrev numbers : ℕ → List ℕ → List ℕ → ℕ → ℕ → ℕ → ℕ → List ℕ
 numbers version generation revision size stored plain flags = signature ++ (to_be_bytes w32 version ++ (ended generation ++ (ended revision ++ (to_be_bytes w64 size ++ (to_be_bytes w32 stored ++ (to_be_bytes w32 plain ++ to_be_bytes w32 flags))))))
 
 -- the parts of a file that was read
-abbrev parts_of : {file : List ℕ} {h : Head} {after c : Tail} {l : Layout} {x : ℕ × List NodePlace} {start : ℕ} → HeadTaken (whole file) (h, after) → InfoTaken c x → DataTaken h.flags x.0 l (between l file) start → Parts
+abbrev parts_of : {file : List ℕ} {h : Head} {after c : Tail} {l : Sections} {x : ℕ × List NodePlace} {start : ℕ} → HeadTaken (whole file) (h, after) → InfoTaken c x → DataTaken h.flags x.0 l (between l file) start → Parts
 parts_of {file} {h} {after} {c} {l} {x} {start} head blocks data_part = record {
   version = h.version;
   generation = head.generation;
@@ -52,7 +52,7 @@ ends_of file h after head =
       inside = omega (arith, split, at);
     }
 
-is_parts : (file : List ℕ) (h : Head) (after : Tail) (l : Layout) (x : ℕ × List NodePlace) (start : ℕ)
+is_parts : (file : List ℕ) (h : Head) (after : Tail) (l : Sections) (x : ℕ × List NodePlace) (start : ℕ)
     → (head : HeadTaken (whole file) (h, after)) → IsSound (length file) h → Cut (is_at_end h.flags) h.stored (place after + header_gap h.version (place after)) file l → header_gap h.version (place after) ≤ length after.rest
     → (blocks : InfoTaken (part l.info h.stored file) x) → (data_part : DataTaken h.flags x.0 l (between l file) start) → range_fault x.0 x.1 ≡ None
     → IsBundle file (record { version = h.version; start = start; nodes = x.1 })
@@ -96,7 +96,7 @@ is_parts file h after l x start head sound cut long blocks data_part ranges =
     (p, is_file, ap (λ n. record { version = h.version; start = n; nodes = x.1 }) (data_part.is_start ∙ ap (λ n. n + length p.gap) data_start))
 
 -- what follows a header that was read without a fault
-found_behind : (file : List ℕ) (h : Head) (after : Tail) (l : Layout) (b : Bundle) → IsBytes file → HeadTaken (whole file) (h, after) → IsSound (length file) h → IsLaid (length file) h (place after) l → behind_read (length file) h l file ≡ Ok b → IsBundle file b
+found_behind : (file : List ℕ) (h : Head) (after : Tail) (l : Sections) (b : Bundle) → IsBytes file → HeadTaken (whole file) (h, after) → IsSound (length file) h → IsLaid (length file) h (place after) l → behind_read (length file) h l file ≡ Ok b → IsBundle file b
 unfolding behind_read
 found_behind file h after l b fits head sound at e =
     let ends = ends_of file h after head in
@@ -127,15 +127,15 @@ opened file x e =
     subst (Opened file) (ok_is (head.0.0, place head.0.1) x head.2) (record { after = head.0.1; is_head = head.1; at = refl })
 
 pub is_found : (file : List ℕ) (b : Bundle) → IsBytes file → bundle_read file ≡ Ok b → IsBundle file b
-unfolding bundle_read layout_read
+unfolding bundle_read sections_read
 is_found file b fits e =
     let head = bind_ok (header_read file) _ b e in
     let behind = opened file head.0 head.1 in
-    let places = bind_ok (layout_read (length file) head.0.0 head.0.1) _ b head.2 in
+    let places = bind_ok (sections_read (length file) head.0.0 head.0.1) _ b head.2 in
     let tested = bind_ok (unless (header_fault (length file) head.0.0) head.0.1) _ places.0 places.1 in
     let passed = unless_ok (header_fault (length file) head.0.0) head.0.1 tested.0 tested.1 in
     let taken : HeadTaken (whole file) (head.0.0, behind.after) = head_takes (whole file) (head.0.0, behind.after) fits behind.is_head in
     let at : IsLaid (length file) head.0.0 (place behind.after) places.0 =
-    layout_takes (length file) head.0.0 (place behind.after) places.0 (ap (layout_at (length file) head.0.0) (behind.at ∙ passed.1) ∙ tested.2)
+    sections_takes (length file) head.0.0 (place behind.after) places.0 (ap (sections_at (length file) head.0.0) (behind.at ∙ passed.1) ∙ tested.2)
     in
     found_behind file head.0.0 behind.after places.0 b fits taken (header_sound (length file) head.0.0 passed.0) at places.2

@@ -4,7 +4,7 @@ use Rattle.std.specs.Int.{Width, w16, w32, w64}
 use Rattle.addr_unityfs.specs.declared.bundle.NodePlace.{NodePlace}
 use Rattle.addr_unityfs.specs.declared.error.FsErr.{FsErr}
 use Rattle.addr_unityfs.specs.declared.error.FsErr.TheVariants.{Short, Signature, Version, NotCombined, Compressed, Size, Blocks, NodeRange, Path, NoMemory}
-use Rattle.addr_unityfs.specs.Faults.{Head, Layout, ◌>>=◌, Tail, whole, part, number_at, skip_at, cut_at_zero, text_at, signature_at, version_at, head_at, header_read, header_fault, unless, layout_at, layout_read, block_fault, block_at, blocks_at, node_at, nodes_at, info_at, data_at, range_fault, range_fault_at, behind_read, bundle_read}
+use Rattle.addr_unityfs.specs.Faults.{Head, Sections, ◌>>=◌, Tail, whole, part, number_at, skip_at, cut_at_zero, text_at, signature_at, version_at, head_at, header_read, header_fault, unless, sections_at, sections_read, block_fault, block_at, blocks_at, node_at, nodes_at, info_at, data_at, range_fault, range_fault_at, behind_read, bundle_read}
 
 abbrev IsNamed : {A : Type 0} → Result A FsErr → Type 0
 IsNamed r = r ≡ Err NoMemory → ⊥
@@ -105,13 +105,13 @@ header_named : (len : ℕ) (h : Head) → IsNamedFault (header_fault len h)
 unfolding header_fault
 header_named len h = fault_if _ _ _ (some_named _ (not_size _ _)) (fault_if _ _ _ (some_named _ not_combined) (fault_if _ _ _ (some_named _ (not_compressed _)) (fault_if _ _ _ (some_named _ (not_blocks _ _)) none_named)))
 
-layout_named : (len : ℕ) (h : Head) (at : ℕ) → IsNamed (layout_at len h at)
-unfolding layout_at
-layout_named len h at = named_if _ _ _ (err_named _ (not_short _)) (ok_named _)
+sections_named : (len : ℕ) (h : Head) (at : ℕ) → IsNamed (sections_at len h at)
+unfolding sections_at
+sections_named len h at = named_if _ _ _ (err_named _ (not_short _)) (ok_named _)
 
-places_named : (len : ℕ) (h : Head) (at : ℕ) → IsNamed (layout_read len h at)
-unfolding layout_read
-places_named len h at = named_then _ _ (named_unless (header_fault len h) at (header_named len h)) (λ tested. layout_named len h tested)
+places_named : (len : ℕ) (h : Head) (at : ℕ) → IsNamed (sections_read len h at)
+unfolding sections_read
+places_named len h at = named_then _ _ (named_unless (header_fault len h) at (header_named len h)) (λ tested. sections_named len h tested)
 
 block_fault_named : (plain stored flags : ℕ) → IsNamedFault (block_fault plain stored flags)
 unfolding block_fault
@@ -141,7 +141,7 @@ unfolding info_at
 info_named c =
     named_then _ _ (skip_named 16 c) (λ skipped. named_then _ _ (number_named w32 skipped) (λ blocks. named_then _ _ (blocks_named blocks.0 0 blocks.1) (λ sum. named_then _ _ (number_named w32 sum.1) (λ nodes. named_then _ _ (nodes_named nodes.0 [] nodes.1) (λ places. (ok_named _))))))
 
-data_named : (len flags sum : ℕ) (l : Layout) → IsNamed (data_at len flags sum l)
+data_named : (len flags sum : ℕ) (l : Sections) → IsNamed (data_at len flags sum l)
 unfolding data_at
 data_named len flags sum l = named_if _ _ _ (err_named _ (not_short _)) (named_if _ _ _ (err_named _ (not_blocks _ _)) (ok_named _))
 
@@ -153,7 +153,7 @@ range_named : (room : ℕ) (nodes : List NodePlace) → IsNamedFault (range_faul
 unfolding range_fault
 range_named room nodes = place_named _
 
-behind_named : (len : ℕ) (h : Head) (l : Layout) (file : List ℕ) → IsNamed (behind_read len h l file)
+behind_named : (len : ℕ) (h : Head) (l : Sections) (file : List ℕ) → IsNamed (behind_read len h l file)
 unfolding behind_read
 behind_named len h l file = named_then _ _ (info_named (part l.info h.stored file)) (λ info. named_then _ _ (data_named len h.flags info.0 l) (λ start. named_unless _ _ (range_named info.0 info.1)))
 

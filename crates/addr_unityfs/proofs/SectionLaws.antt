@@ -10,22 +10,22 @@ use Rattle.addr_unityfs.specs.declared.error.FsErr.TheVariants.{Short, Blocks}
 use Rattle.addr_unityfs.specs.Flags.{is_at_end, header_gap, data_gap}
 use Rattle.addr_unityfs.specs.Spelling.{Block, block, node}
 use Rattle.addr_unityfs.specs.Format.{IsBlock}
-use Rattle.addr_unityfs.specs.Faults.{Head, Layout, Tail, number_at, skip_at, laid, layout_at, blocks_at, nodes_at, info_at, data_at}
+use Rattle.addr_unityfs.specs.Faults.{Head, Sections, Tail, number_at, skip_at, laid, sections_at, blocks_at, nodes_at, info_at, data_at}
 use Rattle.addr_unityfs.proofs.FieldLaws.{IsBytes, bind_ok, guard_ok, ok_is, Takes-then, wide32, number_takes, number_again, skip_takes, skip_again}
 use Rattle.addr_unityfs.proofs.RowLaws.{size_of, blocks_take, blocks_again, AreRows, nodes_take, nodes_again}
 
 -- ---- the two sections
 
 -- the bytes of a file in which the data and its padding lie
-abbrev pub between : Layout → List ℕ → List ℕ
+abbrev pub between : Sections → List ℕ → List ℕ
 between l file = take (l.to - l.from) (drop l.from file)
 
 -- the bytes of a file in which the blocks info lies
-abbrev pub info_bytes : ℕ → Layout → List ℕ → List ℕ
+abbrev pub info_bytes : ℕ → Sections → List ℕ → List ℕ
 info_bytes stored l file = take stored (drop l.info file)
 
 -- what stands behind the padded header is cut at the blocks info
-pub record Cut (at_end : Bool) (stored from : ℕ) (file : List ℕ) (l : Layout) : Type 0 where
+pub record Cut (at_end : Bool) (stored from : ℕ) (file : List ℕ) (l : Sections) : Type 0 where
   pub bytes : drop from file ≡ cond at_end (between l file ++ info_bytes stored l file) (info_bytes stored l file ++ between l file)
   pub info_len : length (info_bytes stored l file) ≡ stored
   pub held_len : length (between l file) ≡ l.to - l.from
@@ -55,24 +55,24 @@ cut_takes false stored from file long =
       start = refl;
     }
 
-pub record IsLaid (len : ℕ) (h : Head) (at : ℕ) (l : Layout) : Type 0 where
+pub record IsLaid (len : ℕ) (h : Head) (at : ℕ) (l : Sections) : Type 0 where
   pub long : header_gap h.version at + h.stored ≤ len - at
   pub is_laid : laid (is_at_end h.flags) len h.stored (at + header_gap h.version at) ≡ l
 
-pub layout_takes : (len : ℕ) (h : Head) (at : ℕ) (l : Layout) → layout_at len h at ≡ Ok l → IsLaid len h at l
-unfolding layout_at
-layout_takes len h at l e =
+pub sections_takes : (len : ℕ) (h : Head) (at : ℕ) (l : Sections) → sections_at len h at ≡ Ok l → IsLaid len h at l
+unfolding sections_at
+sections_takes len h at l e =
     let gap = header_gap h.version at in
     let passed = guard_ok (ltb (len - at) (gap + h.stored)) (Short len) (laid (is_at_end h.flags) len h.stored (at + gap)) l e in
     record { long = ltb-false _ _ passed.0; is_laid = passed.1 }
 
-pub layout_again : (len : ℕ) (h : Head) (at pad : ℕ) → pad ≡ header_gap h.version at → pad + h.stored ≤ len - at → layout_at len h at ≡ Ok (laid (is_at_end h.flags) len h.stored (at + pad))
-unfolding layout_at
-layout_again len h at pad padded long =
+pub sections_again : (len : ℕ) (h : Head) (at pad : ℕ) → pad ≡ header_gap h.version at → pad + h.stored ≤ len - at → sections_at len h at ≡ Ok (laid (is_at_end h.flags) len h.stored (at + pad))
+unfolding sections_at
+sections_again len h at pad padded long =
     rw (le-ltb (len - at) (header_gap h.version at + h.stored) (omega (arith, padded, long))) (ap (λ n. Ok (laid (is_at_end h.flags) len h.stored (at + n))) (sym padded))
 
 -- what stands at the two places of a file that is a front and both sections
-pub record Again (at_end : Bool) (front held rows file : List ℕ) (l : Layout) : Type 0 where
+pub record Again (at_end : Bool) (front held rows file : List ℕ) (l : Sections) : Type 0 where
   pub info : info_bytes (length rows) l file ≡ rows
   pub start : l.from ≡ length front + cond at_end 0 (length rows)
   pub room : l.to - l.from ≡ length held
@@ -154,7 +154,7 @@ info_again hash blocks nodes spare end hash_len few_blocks few_nodes are_blocks 
 
 -- ---- the data
 
-pub record DataTaken (flags sum : ℕ) (l : Layout) (held : List ℕ) (start : ℕ) : Type 0 where
+pub record DataTaken (flags sum : ℕ) (l : Sections) (held : List ℕ) (start : ℕ) : Type 0 where
   pub gap : List ℕ
   pub bytes : List ℕ
   pub rest : List ℕ
@@ -168,7 +168,7 @@ data_tests true few d e x y given = absurd cc
 data_tests false true d e x y given = absurd cc
 data_tests false false d e x y given = (refl, refl, cc)
 
-pub data_takes : (len flags sum : ℕ) (l : Layout) (held : List ℕ) (start : ℕ) → length held ≡ l.to - l.from → data_at len flags sum l ≡ Ok start → DataTaken flags sum l held start
+pub data_takes : (len flags sum : ℕ) (l : Sections) (held : List ℕ) (start : ℕ) → length held ≡ l.to - l.from → data_at len flags sum l ≡ Ok start → DataTaken flags sum l held start
 unfolding data_at
 data_takes len flags sum l held start held_len e =
     let gap = data_gap flags l.from in
@@ -187,7 +187,7 @@ data_takes len flags sum l held start held_len e =
       is_start = sym passed.2 ∙ ap (λ n. l.from + n) (omega (arith, length-take gap held, room, held_len));
     }
 
-pub data_again : (len flags : ℕ) (l : Layout) (gap bytes rest : List ℕ) → l.to - l.from ≡ length gap + (length bytes + length rest) → length gap ≡ data_gap flags l.from → data_at len flags (length bytes) l ≡ Ok (l.from + length gap)
+pub data_again : (len flags : ℕ) (l : Sections) (gap bytes rest : List ℕ) → l.to - l.from ≡ length gap + (length bytes + length rest) → length gap ≡ data_gap flags l.from → data_at len flags (length bytes) l ≡ Ok (l.from + length gap)
 unfolding data_at
 data_again len flags l gap bytes rest all gap_len =
     let room : ltb (l.to - l.from) (data_gap flags l.from) ≡ false = le-ltb _ _ (omega (arith, all, gap_len)) in
