@@ -7,11 +7,13 @@ pub mod InOrder
 pub mod Loops
 pub mod NumberLaws
 pub mod ObjectLaws
+pub mod OneObject
 pub mod OutsideLaws
 pub mod PartLaws
 pub mod Places
 pub mod PutLaws
 pub mod RowLaws
+pub mod SizeLaws
 pub mod TableLaws
 pub mod WrittenLaws
 pub mod WrittenRows

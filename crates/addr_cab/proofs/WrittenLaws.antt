@@ -127,6 +127,9 @@ all_named objects =
     let leads : list_any (λ o. leads_to name o.refs) (placed 0 objects) ≡ true = same_leads name 0 objects ∙ (sym (leads-flat (λ (o : ObjectOut). o.refs) name objects) ∙ (sym ((are_outside (refs_of objects)).named name) ∙ there)) in
     ap not leads)
 
+pub outside_names : (objects : List ObjectOut) → AllByRecursion IsTyped objects → AllByRecursion IsName (outside_of (refs_of objects))
+outside_names objects typed = recursion_from_All IsName (outside_of (refs_of objects)) (names-homes [] (refs_of objects) (λ k d lt. absurd (omega (arith, lt))) (typed_refs objects typed))
+
 pub is_written : (objects : List ObjectOut) → CanWrite objects → AllByRecursion IsTyped objects → length (cab_data objects) < 2 ^ 64 → IsTable (length (cab_data objects)) (cab_table objects) (placed 0 objects)
 unfolding cab_table
 is_written objects can typed small =
@@ -136,7 +139,7 @@ is_written objects can typed small =
       bytes = refl;
       few_outside = can.few_outside;
       few = omega (arith, can.few, length-placed 0 objects);
-      names = recursion_from_All IsName names (names-homes [] (refs_of objects) (λ k d lt. absurd (omega (arith, lt))) (typed_refs objects typed));
+      names = outside_names objects typed;
       objects = objects_are names objects 0 objects can.few_outside typed can.own can.few_refs (own_homes (λ (o : ObjectOut). o.refs) objects) (omega (arith, small, data_len objects));
       outside_ascend = (are_outside (refs_of objects)).ascend;
       ascend = rows_ascend objects can.ascend;

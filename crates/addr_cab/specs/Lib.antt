@@ -5,6 +5,7 @@ pub mod Faults
 pub mod Format
 pub mod Outside
 pub mod Written
+pub mod Sizes
 pub mod Lookup
 pub mod Objects
 pub mod Searches

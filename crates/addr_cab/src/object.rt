@@ -9,6 +9,13 @@ pub struct ObjectOut {
     pub refs: Items<RefTo>,
 }
 
+/// The lengths of an object to be written: its bytes, and how many references it has.
+#[derive(Clone, Copy)]
+pub struct ObjectSize {
+    pub bytes: u64,
+    pub refs: u64,
+}
+
 /// An object of a table: where its bytes lie, counted from the start of the data.
 #[derive(Drop)]
 pub struct ObjectRow {

@@ -105,6 +105,11 @@ fn write_two(alloc: Global) -> Result<(Vec<u8>, Vec<u8>), NoMemory> {
     write_cab(alloc, &objects)
 }
 
+fn write_one_file(alloc: Global) -> Result<Vec<u8>, NoMemory> {
+    let refs = [to(G1, Home::Own), to(G2, Home::Other(Z))];
+    write_cab_file(alloc, "", Z, &[object(alloc, G1, b"A", &refs)?])
+}
+
 /// The fault of the first table where some of its bytes are others.
 fn changed(alloc: Global, at: usize, bytes: &[u8]) -> Option<CabErr>
     requires { at + length bytes.now ≤ 104 }
@@ -142,6 +147,32 @@ fn one_object_is_written_and_read(rt: HostRuntime) -> Result<(), Fail> {
     assert!(rt; found.bytes == b"A".as_slice() && found.refs.len() == 2);
     assert!(rt; found.refs[0].home == Home::Own && found.refs[1].home == Home::Other(Z));
     assert!(rt; cab.object(&G2).is_none());
+    Ok(())
+}
+
+#[test]
+fn a_file_is_written_and_has_the_size_that_lengths_tell(rt: HostRuntime) -> Result<(), Fail> {
+    let alloc = rt.alloc();
+    let one = ObjectSize { bytes: 1, refs: 2 };
+    let size = cab_size(1, &[one]);
+    assert!(rt; size.table == 104 && size.content == 1);
+    let endless = ObjectSize {
+        bytes: u64::MAX,
+        refs: u64::MAX,
+    };
+    let most = cab_size(u64::MAX, &[one, endless]);
+    assert!(rt; most.table == u64::MAX && most.content == u64::MAX);
+    assert!(rt; cab_file_size(0, 1, &[endless]) == u64::MAX);
+    let file = write_one_file(alloc).ok().ok_or("memory")?;
+    assert!(rt; cab_file_size(0, 1, &[one]) == file.len() as u64 && file.len() == 306);
+    let bundle = read_bundle(alloc, &file).ok().ok_or("a bundle")?;
+    let cab = read_cab(alloc, file, &bundle).ok().ok_or("a table")?;
+    assert!(rt;
+        cab.name() == Z
+            && cab
+                .object(&G1)
+                .is_some_and(|found| found.bytes == b"A".as_slice())
+    );
     Ok(())
 }
 

@@ -4,7 +4,7 @@ ghost use Rattle.std.specs.List.{flat_map, All, AllByRecursion};
 ghost use Rattle.addr_cab.specs.Objects.{HeldByFiles};
 ghost use Rattle.addr_cab.specs.Spelling.{home_number, row_text, table_text};
 ghost use Rattle.addr_cab.specs.Outside.{outside_of};
-ghost use Rattle.addr_cab.specs.Written.{bytes_len, refs_of, placed, cab_table, cab_data, CanWrite, IsTyped, ReadsBack};
+ghost use Rattle.addr_cab.specs.Written.{bytes_len, refs_of, placed, cab_table, cab_data, CanWrite, IsTyped, IsCabText, ReadsBack};
 
 use crate::fields::MAGIC;
 use crate::homes::homes_of;
@@ -84,6 +84,7 @@ pub fn write_cab(alloc: Global, objects: &[ObjectOut]) -> Result<(Vec<u8>, Vec<u
     requires { CanWrite objects.now }
     ensures exact { IfOk result (λ cab. (cab.0.items ≡ cab_table objects.now)
         × (cab.1.items ≡ cab_data objects.now)) }
+    ensures text { IfOk result (λ cab. IsCabText objects.now cab.0.items cab.1.items) }
     // The table is read as rows, at which the data has the objects that were given.
     ensures reads { IfOk result (λ cab. ReadsBack objects.now cab.0.items cab.1.items) }
     // A file that is read as a bundle of just the two nodes with these bytes holds the objects.

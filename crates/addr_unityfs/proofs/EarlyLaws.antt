@@ -4,11 +4,9 @@ use Rattle.std.proofs.Common.{◌≡◌, ℕ, ◌+◌, ◌≤◌, Bool, true, fa
 use Rattle.std.proofs.lemmas.Bool.{ltb-false, eqb-true}
 use Rattle.std.proofs.lemmas.List.{take-append-le, drop-append-le, append-nil}
 use Rattle.addr_unityfs.specs.declared.bundle.Bundle.{Bundle}
-use Rattle.addr_unityfs.specs.Faults.{Head}
-use Rattle.addr_unityfs.specs.Faults.{Layout}
+use Rattle.addr_unityfs.specs.Faults.{Head, Sections, ◌>>=◌, Tail, part, header_read, sections_read, info_at, data_at, range_fault, unless, behind_read, bundle_read}
 use Rattle.addr_unityfs.specs.declared.error.FsErr.{FsErr}
 use Rattle.addr_unityfs.specs.declared.error.FsErr.TheVariants.{Short}
-use Rattle.addr_unityfs.specs.Faults.{◌>>=◌, Tail, part, header_read, layout_read, info_at, data_at, range_fault, unless, behind_read, bundle_read}
 use Rattle.addr_unityfs.specs.Early.{told, fault_of, early_behind, early_read, early_of, early_at}
 use Rattle.addr_unityfs.proofs.OnLaws.{GoesOn, header_goes}
 
@@ -30,20 +28,20 @@ part_on at n bytes more long =
     ap (λ (r : List ℕ). record { end = at + n; rest = r })
     (ap (take n) (drop-append-le at bytes more (omega (arith, long))) ∙ take-append-le n (drop at bytes) more (omega (arith, length-drop at bytes, long)))
 
-pub behind_on : (total : ℕ) (h : Head) (l : Layout) (bytes more : List ℕ) → l.info + h.stored ≤ length bytes → behind_read total h l (bytes ++ more) ≡ behind_read total h l bytes
+pub behind_on : (total : ℕ) (h : Head) (l : Sections) (bytes more : List ℕ) → l.info + h.stored ≤ length bytes → behind_read total h l (bytes ++ more) ≡ behind_read total h l bytes
 unfolding behind_read
 behind_on total h l bytes more long =
     ap (λ (t : Tail). info_at t >>= (λ info. data_at total h.flags info.0 l >>= (λ start. unless (range_fault info.0 info.1) (record { version = h.version; start = start; nodes = info.1 })))) (part_on l.info h.stored bytes more long)
 
 -- a file, read behind its header
 abbrev from_header : ℕ → List ℕ → Result (Head × ℕ) FsErr → Result Bundle FsErr
-from_header total file r = r >>= (λ x. layout_read total x.0 x.1 >>= (λ l. behind_read total x.0 l file))
+from_header total file r = r >>= (λ x. sections_read total x.0 x.1 >>= (λ l. behind_read total x.0 l file))
 
-gate : (b : Bool) (total : ℕ) (h : Head) (l : Layout) (bytes more : List ℕ) (e : FsErr) → (b ≡ false → l.info + h.stored ≤ length bytes) → cond b None (fault_of (behind_read total h l bytes)) ≡ Some e → behind_read total h l (bytes ++ more) ≡ Err e
+gate : (b : Bool) (total : ℕ) (h : Head) (l : Sections) (bytes more : List ℕ) (e : FsErr) → (b ≡ false → l.info + h.stored ≤ length bytes) → cond b None (fault_of (behind_read total h l bytes)) ≡ Some e → behind_read total h l (bytes ++ more) ≡ Err e
 gate true total h l bytes more e room early = absurd cc
 gate false total h l bytes more e room early = behind_on total h l bytes more (room refl) ∙ fault_is (behind_read total h l bytes) e early
 
-behind_law : (total : ℕ) (h : Head) (bytes more : List ℕ) (e : FsErr) (r : Result Layout FsErr) → early_behind total bytes h r ≡ Some e → (r >>= (λ l. behind_read total h l (bytes ++ more))) ≡ Err e
+behind_law : (total : ℕ) (h : Head) (bytes more : List ℕ) (e : FsErr) (r : Result Sections FsErr) → early_behind total bytes h r ≡ Some e → (r >>= (λ l. behind_read total h l (bytes ++ more))) ≡ Err e
 behind_law total h bytes more e (Err d) early = let at : d ≡ e = cc in ap Err at
 behind_law total h bytes more e (Ok l) early = gate (ltb (length bytes) (l.info + h.stored)) total h l bytes more e (λ room. ltb-false _ _ room) early
 
@@ -52,7 +50,7 @@ read_law total bytes more e (Err d) s goes early =
     let is = told_is d e early in
     ap (from_header total (bytes ++ more)) (goes.fault d is.0 refl) ∙ ap Err is.1
 read_law total bytes more e (Ok x) s goes early =
-    ap (from_header total (bytes ++ more)) (goes.value x refl) ∙ behind_law total x.0 bytes more e (layout_read total x.0 x.1) early
+    ap (from_header total (bytes ++ more)) (goes.value x refl) ∙ behind_law total x.0 bytes more e (sections_read total x.0 x.1) early
 
 nothing_more : (bytes more : List ℕ) → length (bytes ++ more) ≡ length bytes → more ≡ []
 nothing_more bytes [] len = refl

@@ -10,11 +10,11 @@ use Rattle.addr_unityfs.specs.declared.stage.Stage.{Stage}
 use Rattle.addr_unityfs.specs.declared.stage.Stage.TheVariants.{Head, Info, Rest, Bad}
 use Rattle.addr_unityfs.specs.Spelling.{signature}
 use Rattle.addr_unityfs.specs.Faults as faults
-use Rattle.addr_unityfs.specs.Faults.{number_at, signature_at, version_at, head_at, header_read, layout_read, behind_read, bundle_read}
+use Rattle.addr_unityfs.specs.Faults.{number_at, signature_at, version_at, head_at, header_read, sections_read, behind_read, bundle_read}
 use Rattle.addr_unityfs.specs.Early.{told, fault_of, early_of, early_at, version_in, is_other_version}
 use Rattle.addr_unityfs.specs.within.Stages.{told_stage, done_stage, laid_stage, header_stage, stage_of, fault_in, is_bad}
 use Rattle.addr_unityfs.specs.within.Kept.{Kept, kept_with}
-use Rattle.addr_unityfs.proofs.ReadLaws.{bundle_named}
+use Rattle.addr_unityfs.proofs.NamedLaws.{bundle_named}
 use Rattle.addr_unityfs.proofs.EarlyLaws.{early_is_first}
 use Rattle.addr_unityfs.proofs.StageLaws.{stage_fault, bad_stays}
 use Rattle.addr_unityfs.proofs.TookLaws.{take-append, early_exact}
@@ -50,11 +50,11 @@ signature_other total bytes long other = signature_told total bytes long (false_
 pub version_other : (total : ℕ) (bytes : List ℕ) → 12 ≤ length bytes → take 8 bytes ≡ signature → is_other_version (version_in bytes) ≡ true → early_of total bytes ≡ Some (Version (version_in bytes))
 version_other total bytes long same other = version_told total bytes long ((bytes_eq-Decides (take 8 bytes) signature).1 same) other
 
-pub header_told : (total : ℕ) (bytes : List ℕ) (x : faults.Head × ℕ) (e : FsErr) → header_read bytes ≡ Ok x → layout_read total x.0 x.1 ≡ Err e → early_of total bytes ≡ Some e
+pub header_told : (total : ℕ) (bytes : List ℕ) (x : faults.Head × ℕ) (e : FsErr) → header_read bytes ≡ Ok x → sections_read total x.0 x.1 ≡ Err e → early_of total bytes ≡ Some e
 unfolding stage_of
 header_told total bytes x e head fault = stage_fault total bytes ∙ (ap (λ r. fault_in (header_stage total bytes r)) head ∙ ap (λ r. fault_in (laid_stage total bytes x.0 r)) fault)
 
-pub info_told : (total : ℕ) (bytes : List ℕ) (x : faults.Head × ℕ) (l : faults.Layout) (e : FsErr) → header_read bytes ≡ Ok x → layout_read total x.0 x.1 ≡ Ok l → l.info + x.0.stored ≤ length bytes
+pub info_told : (total : ℕ) (bytes : List ℕ) (x : faults.Head × ℕ) (l : faults.Sections) (e : FsErr) → header_read bytes ≡ Ok x → sections_read total x.0 x.1 ≡ Ok l → l.info + x.0.stored ≤ length bytes
     → behind_read total x.0 l bytes ≡ Err e → early_of total bytes ≡ Some e
 unfolding stage_of
 info_told total bytes x l e head places long fault =

@@ -4,13 +4,12 @@ use Rattle.std.specs.Int.{w32, w64, to_be_bytes, cast_signed}
 use Rattle.std.proofs.lemmas.Bool.{ltb-false, le-ltb, eqb-true}
 use Rattle.std.proofs.lemmas.List.{take_at, drop_at, take-append-drop}
 use Rattle.std.proofs.lemmas.Slice.Eq.{bytes_eq-Decides}
-use Rattle.addr_unityfs.specs.Faults.{Head}
+use Rattle.addr_unityfs.specs.Faults.{Head, Tail, past, number_at, text_at, signature_at, version_at, head_at, header_fault}
 use Rattle.addr_unityfs.specs.declared.error.FsErr.{FsErr}
 use Rattle.addr_unityfs.specs.declared.error.FsErr.TheVariants.{Short, Signature, Version, NotCombined, Compressed, Size, Blocks}
 use Rattle.addr_unityfs.specs.Flags.{kind_of, is_combined}
 use Rattle.addr_unityfs.specs.Spelling.{signature, ended}
 use Rattle.addr_unityfs.specs.Format.{NoZero}
-use Rattle.addr_unityfs.specs.Faults.{Tail, past, number_at, text_at, signature_at, version_at, head_at, header_fault}
 use Rattle.addr_unityfs.proofs.FieldLaws.{IsBytes, IsBytes-drop, bind_ok, guard_ok, ok_is, Takes, Takes-then, wide32, wide64, number_takes, number_again, text_takes, text_again}
 use Rattle.addr_unityfs.proofs.RowLaws.{test_passed}
 

@@ -2,11 +2,9 @@
 use Rattle.std.proofs.Common.{◌≡◌, ℕ, ℤ, zero, suc, ◌+◌, Bool, true, false, cond, List, [], ◌∷◌, ◌++◌, length, Option, Some, None, Result, Ok, Err, ap}
 use Rattle.std.specs.Int.{Width, w16, w32, w64}
 use Rattle.addr_unityfs.specs.declared.bundle.NodePlace.{NodePlace}
-use Rattle.addr_unityfs.specs.Faults.{Head}
 use Rattle.addr_unityfs.specs.declared.error.FsErr.{FsErr}
 use Rattle.addr_unityfs.specs.declared.error.FsErr.TheVariants.{Short, Signature, Version, NotCombined, Compressed, Size, Blocks, NodeRange, Path, NoMemory}
-use Rattle.addr_unityfs.specs.Faults.{◌>>=◌, Tail, whole, number_at, skip_at, cut_at_zero, text_at, signature_at, version_at, head_at, header_fault, unless, block_fault, block_at, blocks_at, node_at, nodes_at, info_at, range_fault, range_fault_at}
-use Rattle.addr_unityfs.proofs.Tailed.{sections_at, data_at, bundle_read}
+use Rattle.addr_unityfs.specs.Faults.{Head, Sections, ◌>>=◌, Tail, whole, part, number_at, skip_at, cut_at_zero, text_at, signature_at, version_at, head_at, header_read, header_fault, unless, sections_at, sections_read, block_fault, block_at, blocks_at, node_at, nodes_at, info_at, data_at, range_fault, range_fault_at, behind_read, bundle_read}
 
 abbrev IsNamed : {A : Type 0} → Result A FsErr → Type 0
 IsNamed r = r ≡ Err NoMemory → ⊥
@@ -107,9 +105,13 @@ header_named : (len : ℕ) (h : Head) → IsNamedFault (header_fault len h)
 unfolding header_fault
 header_named len h = fault_if _ _ _ (some_named _ (not_size _ _)) (fault_if _ _ _ (some_named _ not_combined) (fault_if _ _ _ (some_named _ (not_compressed _)) (fault_if _ _ _ (some_named _ (not_blocks _ _)) none_named)))
 
-sections_named : (h : Head) (c : Tail) → IsNamed (sections_at h c)
+sections_named : (len : ℕ) (h : Head) (at : ℕ) → IsNamed (sections_at len h at)
 unfolding sections_at
-sections_named h c = named_if _ _ _ (err_named _ (not_short _)) (ok_named _)
+sections_named len h at = named_if _ _ _ (err_named _ (not_short _)) (ok_named _)
+
+places_named : (len : ℕ) (h : Head) (at : ℕ) → IsNamed (sections_read len h at)
+unfolding sections_read
+places_named len h at = named_then _ _ (named_unless (header_fault len h) at (header_named len h)) (λ tested. sections_named len h tested)
 
 block_fault_named : (plain stored flags : ℕ) → IsNamedFault (block_fault plain stored flags)
 unfolding block_fault
@@ -139,9 +141,9 @@ unfolding info_at
 info_named c =
     named_then _ _ (skip_named 16 c) (λ skipped. named_then _ _ (number_named w32 skipped) (λ blocks. named_then _ _ (blocks_named blocks.0 0 blocks.1) (λ sum. named_then _ _ (number_named w32 sum.1) (λ nodes. named_then _ _ (nodes_named nodes.0 [] nodes.1) (λ places. (ok_named _))))))
 
-data_named : (len flags sum : ℕ) (c : Tail) → IsNamed (data_at len flags sum c)
+data_named : (len flags sum : ℕ) (l : Sections) → IsNamed (data_at len flags sum l)
 unfolding data_at
-data_named len flags sum c = named_if _ _ _ (err_named _ (not_short _)) (named_if _ _ _ (err_named _ (not_blocks _ _)) (ok_named _))
+data_named len flags sum l = named_if _ _ _ (err_named _ (not_short _)) (named_if _ _ _ (err_named _ (not_blocks _ _)) (ok_named _))
 
 place_named : (o : Option ℕ) → IsNamedFault (range_fault_at o)
 place_named None = none_named
@@ -151,8 +153,14 @@ range_named : (room : ℕ) (nodes : List NodePlace) → IsNamedFault (range_faul
 unfolding range_fault
 range_named room nodes = place_named _
 
+behind_named : (len : ℕ) (h : Head) (l : Sections) (file : List ℕ) → IsNamed (behind_read len h l file)
+unfolding behind_read
+behind_named len h l file = named_then _ _ (info_named (part l.info h.stored file)) (λ info. named_then _ _ (data_named len h.flags info.0 l) (λ start. named_unless _ _ (range_named info.0 info.1)))
+
+numbers_named : (file : List ℕ) → IsNamed (header_read file)
+unfolding header_read
+numbers_named file = named_then _ _ (head_named (whole file)) (λ head. (ok_named _))
+
 pub bundle_named : (file : List ℕ) → bundle_read file ≡ Err NoMemory → ⊥
 unfolding bundle_read
-bundle_named file =
-    named_then _ _ (head_named (whole file)) (λ head. named_then _ _ (named_unless (header_fault (length file) head.0) head.1 (header_named (length file) head.0)) (λ tested. named_then _ _ (sections_named head.0 tested) (λ sections.
-    named_then _ _ (info_named sections.info) (λ info. named_then _ _ (data_named (length file) head.0.flags info.0 sections.contents) (λ start. named_unless _ _ (range_named info.0 info.1))))))
+bundle_named file = named_then _ _ (numbers_named file) (λ head. named_then _ _ (places_named (length file) head.0 head.1) (λ l. behind_named (length file) head.0 l file))

@@ -6,11 +6,10 @@ use Rattle.std.proofs.lemmas.Bool.{ltb-false, le-ltb, lt-ltb}
 use Rattle.std.proofs.lemmas.List.{take-append-le, drop-append-le, get_or_append_left}
 use Rattle.std.proofs.lemmas.List.Quantifiers.{position-Some}
 use Rattle.std.proofs.lemmas.List.Sums.{position_or_len_is}
-use Rattle.addr_unityfs.specs.Faults.{Head}
+use Rattle.addr_unityfs.specs.Faults.{Head, ◌>>=◌, Tail, place, whole, past, number_at, cut_at_zero, text_at, signature_at, version_at, head_at, header_read}
 use Rattle.addr_unityfs.specs.declared.error.FsErr.{FsErr}
 use Rattle.addr_unityfs.specs.declared.error.FsErr.TheVariants.{Short, Signature, Version}
 use Rattle.addr_unityfs.specs.Spelling.{signature}
-use Rattle.addr_unityfs.specs.Faults.{◌>>=◌, Tail, place, whole, past, number_at, cut_at_zero, text_at, signature_at, version_at, head_at, header_read}
 use Rattle.addr_unityfs.specs.Early.{told}
 use Rattle.addr_unityfs.proofs.FieldLaws.{ok_is, is_zero}
 use Rattle.addr_unityfs.proofs.PastLaws.{head_past}

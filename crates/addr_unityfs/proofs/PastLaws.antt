@@ -5,11 +5,10 @@ use Rattle.std.specs.Int.{Width, w32, w64, byte_len, from_be_bytes}
 use Rattle.std.proofs.lemmas.Bool.{ltb-false}
 use Rattle.std.proofs.lemmas.List.{drop-drop}
 use Rattle.std.proofs.lemmas.List.Quantifiers.{position-Some}
-use Rattle.addr_unityfs.specs.Faults.{Head}
+use Rattle.addr_unityfs.specs.Faults.{Head, Tail, place, whole, past, number_at, text_at, signature_at, version_at, head_at}
 use Rattle.addr_unityfs.specs.declared.error.FsErr.{FsErr}
 use Rattle.addr_unityfs.specs.declared.error.FsErr.TheVariants.{Short, Signature, Version}
 use Rattle.addr_unityfs.specs.Spelling.{signature}
-use Rattle.addr_unityfs.specs.Faults.{Tail, place, whole, past, number_at, text_at, signature_at, version_at, head_at}
 use Rattle.addr_unityfs.proofs.FieldLaws.{bind_ok, guard_ok, ok_is, is_zero, cut_ok}
 
 -- ---- behind so many of the bytes

@@ -12,8 +12,8 @@ use Rattle.addr_unityfs.specs.Format.{IsNode, contents_start, IsFile, IsBundle}
 use Rattle.addr_unityfs.specs.Faults.{Answers, bundle_read}
 use Rattle.addr_unityfs.specs.within.Tails.{Gives}
 use Rattle.addr_unityfs.proofs.FieldLaws.{IsBytes, ok_is}
-use Rattle.addr_unityfs.proofs.ReadLaws.{is_found, is_read}
-use Rattle.addr_unityfs.proofs.AgainLaws.{body_length}
+use Rattle.addr_unityfs.proofs.FoundLaws.{is_found}
+use Rattle.addr_unityfs.proofs.AgainLaws.{body_length, is_read}
 
 pub is_bundle : (file : List ℕ) (b : Bundle) → IsBytes file → length file < 2 ^ 63 → IsBundle file b ↔ (bundle_read file ≡ Ok b)
 is_bundle file b fits small = (λ held. is_read file held.0 small held.1 ∙ ap Ok (sym held.2), is_found file b fits)

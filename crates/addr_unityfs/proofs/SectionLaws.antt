@@ -3,54 +3,98 @@ use Rattle.std.proofs.Common.{◌≡◌, ℕ, ◌+◌, ◌-◌, ◌^◌, ◌<◌
 use Rattle.std.specs.List.{flat_map, AllByRecursion}
 use Rattle.std.specs.Int.{w32, to_be_bytes}
 use Rattle.std.proofs.lemmas.Bool.{ltb-false, le-ltb}
-use Rattle.std.proofs.lemmas.List.{take-append-drop}
+use Rattle.std.proofs.lemmas.List.{take-append-drop, take_at, drop_at, take_all, take_rest, drop-drop}
 use Rattle.addr_unityfs.specs.declared.bundle.NodePlace.{NodePlace}
-use Rattle.addr_unityfs.specs.Faults.{Head}
 use Rattle.addr_unityfs.specs.declared.error.FsErr.{FsErr}
 use Rattle.addr_unityfs.specs.declared.error.FsErr.TheVariants.{Short, Blocks}
 use Rattle.addr_unityfs.specs.Flags.{is_at_end, header_gap, data_gap}
 use Rattle.addr_unityfs.specs.Spelling.{Block, block, node}
 use Rattle.addr_unityfs.specs.Format.{IsBlock}
-use Rattle.addr_unityfs.specs.Faults.{Tail, place, past, number_at, skip_at, blocks_at, nodes_at, info_at}
-use Rattle.addr_unityfs.proofs.Tailed.{Sections, cut_sections, sections_at, data_at}
-use Rattle.addr_unityfs.proofs.FieldLaws.{IsBytes, IsBytes-drop, IsBytes-take, bind_ok, guard_ok, ok_is, Takes-then, wide32, number_takes, number_again, skip_takes, skip_again}
+use Rattle.addr_unityfs.specs.Faults.{Head, Sections, Tail, number_at, skip_at, laid, sections_at, blocks_at, nodes_at, info_at, data_at}
+use Rattle.addr_unityfs.proofs.FieldLaws.{IsBytes, bind_ok, guard_ok, ok_is, Takes-then, wide32, number_takes, number_again, skip_takes, skip_again}
 use Rattle.addr_unityfs.proofs.RowLaws.{size_of, blocks_take, blocks_again, AreRows, nodes_take, nodes_again}
 
 -- ---- the two sections
 
+-- the bytes of a file in which the data and its padding lie
+abbrev pub between : Sections → List ℕ → List ℕ
+between l file = take (l.to - l.from) (drop l.from file)
+
+-- the bytes of a file in which the blocks info lies
+abbrev pub info_bytes : ℕ → Sections → List ℕ → List ℕ
+info_bytes stored l file = take stored (drop l.info file)
+
 -- what stands behind the padded header is cut at the blocks info
-pub record Cut (at_end : Bool) (len : ℕ) (c : Tail) (s : Sections) : Type 0 where
-  pub bytes : c.rest ≡ cond at_end (s.contents.rest ++ s.info.rest) (s.info.rest ++ s.contents.rest)
-  pub info_len : length s.info.rest ≡ len
-  pub info_bytes : IsBytes s.info.rest
-  pub start : place s.contents ≡ place c + cond at_end 0 len
+pub record Cut (at_end : Bool) (stored from : ℕ) (file : List ℕ) (l : Sections) : Type 0 where
+  pub bytes : drop from file ≡ cond at_end (between l file ++ info_bytes stored l file) (info_bytes stored l file ++ between l file)
+  pub info_len : length (info_bytes stored l file) ≡ stored
+  pub held_len : length (between l file) ≡ l.to - l.from
+  pub start : l.from ≡ from + cond at_end 0 stored
 
-pub cut_takes : (at_end : Bool) (len : ℕ) (c : Tail) → len ≤ length c.rest → length c.rest ≤ c.end → IsBytes c.rest → Cut at_end len c (cut_sections at_end len c)
-cut_takes true len c long placed fits =
-    let n = length c.rest - len in
+pub cut_takes : (at_end : Bool) (stored from : ℕ) (file : List ℕ) → from + stored ≤ length file → Cut at_end stored from file (laid at_end (length file) stored from)
+cut_takes true stored from file long =
+    let len = length file in
+    let n = len - stored - from in
+    let place : from + n ≡ len - stored = omega (arith, long) in
+    let info : drop n (drop from file) ≡ take stored (drop (len - stored) file) =
+    drop-drop n from file ∙ (ap (λ i. drop i file) place ∙ (sym (take_rest file (len - stored)) ∙ ap (λ i. take i (drop (len - stored) file)) (omega (arith, long))))
+    in
     record {
-      bytes = sym (take-append-drop n c.rest);
-      info_len = omega (arith, length-drop n c.rest, long);
-      info_bytes = IsBytes-drop n c.rest fits;
-      start = omega (arith, length-take n c.rest, long, placed);
+      bytes = sym (take-append-drop n (drop from file)) ∙ ap (λ (t : List ℕ). take n (drop from file) ++ t) info;
+      info_len = omega (arith, length-take stored (drop (len - stored) file), length-drop (len - stored) file, long);
+      held_len = omega (arith, length-take n (drop from file), length-drop from file, long);
+      start = omega arith;
     }
-cut_takes false len c long placed fits = record {
-  bytes = sym (take-append-drop len c.rest);
-  info_len = omega (arith, length-take len c.rest, long);
-  info_bytes = IsBytes-take len c.rest fits;
-  start = omega (arith, length-drop len c.rest, long, placed);
-}
+cut_takes false stored from file long =
+    let len = length file in
+    let held : drop stored (drop from file) ≡ take (len - (from + stored)) (drop (from + stored) file) = drop-drop stored from file ∙ sym (take_rest file (from + stored)) in
+    record {
+      bytes = sym (take-append-drop stored (drop from file)) ∙ ap (λ (t : List ℕ). take stored (drop from file) ++ t) held;
+      info_len = omega (arith, length-take stored (drop from file), length-drop from file, long);
+      held_len = omega (arith, length-take (len - (from + stored)) (drop (from + stored) file), length-drop (from + stored) file, long);
+      start = refl;
+    }
 
-pub record IsCutAt (gap : ℕ) (h : Head) (c : Tail) (s : Sections) : Type 0 where
-  pub long : gap + h.stored ≤ length c.rest
-  pub is_cut : cut_sections (is_at_end h.flags) h.stored (past gap c) ≡ s
+pub record IsLaid (len : ℕ) (h : Head) (at : ℕ) (l : Sections) : Type 0 where
+  pub long : header_gap h.version at + h.stored ≤ len - at
+  pub is_laid : laid (is_at_end h.flags) len h.stored (at + header_gap h.version at) ≡ l
 
-pub sections_take : (h : Head) (c : Tail) (s : Sections) → sections_at h c ≡ Ok s → IsCutAt (header_gap h.version (place c)) h c s
+pub sections_takes : (len : ℕ) (h : Head) (at : ℕ) (l : Sections) → sections_at len h at ≡ Ok l → IsLaid len h at l
 unfolding sections_at
-sections_take h c s e =
-    let gap = header_gap h.version (place c) in
-    let passed = guard_ok (ltb (length c.rest) (gap + h.stored)) (Short c.end) (cut_sections (is_at_end h.flags) h.stored (past gap c)) s e in
-    record { long = ltb-false _ _ passed.0; is_cut = passed.1 }
+sections_takes len h at l e =
+    let gap = header_gap h.version at in
+    let passed = guard_ok (ltb (len - at) (gap + h.stored)) (Short len) (laid (is_at_end h.flags) len h.stored (at + gap)) l e in
+    record { long = ltb-false _ _ passed.0; is_laid = passed.1 }
+
+pub sections_again : (len : ℕ) (h : Head) (at pad : ℕ) → pad ≡ header_gap h.version at → pad + h.stored ≤ len - at → sections_at len h at ≡ Ok (laid (is_at_end h.flags) len h.stored (at + pad))
+unfolding sections_at
+sections_again len h at pad padded long =
+    rw (le-ltb (len - at) (header_gap h.version at + h.stored) (omega (arith, padded, long))) (ap (λ n. Ok (laid (is_at_end h.flags) len h.stored (at + n))) (sym padded))
+
+-- what stands at the two places of a file that is a front and both sections
+pub record Again (at_end : Bool) (front held rows file : List ℕ) (l : Sections) : Type 0 where
+  pub info : info_bytes (length rows) l file ≡ rows
+  pub start : l.from ≡ length front + cond at_end 0 (length rows)
+  pub room : l.to - l.from ≡ length held
+
+pub cut_again : (at_end : Bool) (front held rows file : List ℕ) → file ≡ front ++ cond at_end (held ++ rows) (rows ++ held) → Again at_end front held rows file (laid at_end (length file) (length rows) (length front))
+cut_again true front held rows file same =
+    let split : file ≡ (front ++ held) ++ rows = same ∙ sym (append_assoc front held rows) in
+    let len : length file ≡ length (front ++ held) + length rows = ap length split ∙ length-append (front ++ held) rows in
+    let held_len = length-append front held in
+    let place : length (front ++ held) ≡ length file - length rows = omega (arith, len) in
+    record {
+      info = ap (λ t. take (length rows) (drop (length file - length rows) t)) split ∙ (ap (take (length rows)) (drop_at (front ++ held) rows (length file - length rows) place) ∙ take_all (length rows) rows (omega arith));
+      start = omega arith;
+      room = omega (arith, len, held_len);
+    }
+cut_again false front held rows file same =
+    let len : length file ≡ length front + (length rows + length held) = ap length same ∙ (length-append front (rows ++ held) ∙ ap (λ n. length front + n) (length-append rows held)) in
+    record {
+      info = ap (λ t. take (length rows) (drop (length front) t)) same ∙ (ap (take (length rows)) (drop_at front (rows ++ held) (length front) refl) ∙ take_at rows held (length rows) refl);
+      start = refl;
+      room = omega (arith, len);
+    }
 
 -- ---- the blocks info
 
@@ -110,42 +154,42 @@ info_again hash blocks nodes spare end hash_len few_blocks few_nodes are_blocks 
 
 -- ---- the data
 
-pub record DataTaken (flags sum : ℕ) (c : Tail) (start : ℕ) : Type 0 where
+pub record DataTaken (flags sum : ℕ) (l : Sections) (held : List ℕ) (start : ℕ) : Type 0 where
   pub gap : List ℕ
   pub bytes : List ℕ
   pub rest : List ℕ
-  pub parts : c.rest ≡ gap ++ (bytes ++ rest)
-  pub gap_len : length gap ≡ data_gap flags (place c)
+  pub parts : held ≡ gap ++ (bytes ++ rest)
+  pub gap_len : length gap ≡ data_gap flags l.from
   pub bytes_len : length bytes ≡ sum
-  pub is_start : start ≡ place c + length gap
+  pub is_start : start ≡ l.from + length gap
 
 data_tests : {A : Type 0} (short few : Bool) (d e : FsErr) (x y : A) → cond short (Err d) (cond few (Err e) (Ok x)) ≡ Ok y → (short ≡ false) × (few ≡ false) × (x ≡ y)
 data_tests true few d e x y given = absurd cc
 data_tests false true d e x y given = absurd cc
 data_tests false false d e x y given = (refl, refl, cc)
 
-pub data_takes : (len flags sum : ℕ) (c : Tail) (start : ℕ) → data_at len flags sum c ≡ Ok start → DataTaken flags sum c start
+pub data_takes : (len flags sum : ℕ) (l : Sections) (held : List ℕ) (start : ℕ) → length held ≡ l.to - l.from → data_at len flags sum l ≡ Ok start → DataTaken flags sum l held start
 unfolding data_at
-data_takes len flags sum c start e =
-    let gap = data_gap flags (place c) in
-    let passed = data_tests (ltb (length c.rest) gap) (ltb (length c.rest - gap) sum) (Short len) (Blocks sum (length c.rest - gap)) (place c + gap) start e in
-    let room : gap ≤ length c.rest = ltb-false _ _ passed.0 in
-    let enough : sum ≤ length c.rest - gap = ltb-false _ _ passed.1 in
-    let behind = drop gap c.rest in
+data_takes len flags sum l held start held_len e =
+    let gap = data_gap flags l.from in
+    let found = l.to - l.from in
+    let passed = data_tests (ltb found gap) (ltb (found - gap) sum) (Short len) (Blocks sum (found - gap)) (l.from + gap) start e in
+    let room : gap ≤ found = ltb-false _ _ passed.0 in
+    let enough : sum ≤ found - gap = ltb-false _ _ passed.1 in
+    let behind = drop gap held in
     record {
-      gap = take gap c.rest;
+      gap = take gap held;
       bytes = take sum behind;
       rest = drop sum behind;
-      parts = sym (take-append-drop gap c.rest) ∙ ap (λ t. take gap c.rest ++ t) (sym (take-append-drop sum behind));
-      gap_len = omega (arith, length-take gap c.rest, room);
-      bytes_len = omega (arith, length-take sum behind, length-drop gap c.rest, enough);
-      is_start = sym passed.2 ∙ ap (λ n. place c + n) (omega (arith, length-take gap c.rest, room));
+      parts = sym (take-append-drop gap held) ∙ ap (λ t. take gap held ++ t) (sym (take-append-drop sum behind));
+      gap_len = omega (arith, length-take gap held, room, held_len);
+      bytes_len = omega (arith, length-take sum behind, length-drop gap held, enough, held_len);
+      is_start = sym passed.2 ∙ ap (λ n. l.from + n) (omega (arith, length-take gap held, room, held_len));
     }
 
-pub data_again : (len flags : ℕ) (c : Tail) (gap bytes rest : List ℕ) → c.rest ≡ gap ++ (bytes ++ rest) → length gap ≡ data_gap flags (place c) → data_at len flags (length bytes) c ≡ Ok (place c + length gap)
+pub data_again : (len flags : ℕ) (l : Sections) (gap bytes rest : List ℕ) → l.to - l.from ≡ length gap + (length bytes + length rest) → length gap ≡ data_gap flags l.from → data_at len flags (length bytes) l ≡ Ok (l.from + length gap)
 unfolding data_at
-data_again len flags c gap bytes rest parts gap_len =
-    let all : length c.rest ≡ length gap + (length bytes + length rest) = ap length parts ∙ (length-append gap (bytes ++ rest) ∙ ap (λ n. length gap + n) (length-append bytes rest)) in
-    let room : ltb (length c.rest) (data_gap flags (place c)) ≡ false = le-ltb _ _ (omega (arith, all, gap_len)) in
-    let enough : ltb (length c.rest - data_gap flags (place c)) (length bytes) ≡ false = le-ltb _ _ (omega (arith, all, gap_len)) in
-    rw (room, enough) (ap (λ n. Ok (place c + n)) (sym gap_len))
+data_again len flags l gap bytes rest all gap_len =
+    let room : ltb (l.to - l.from) (data_gap flags l.from) ≡ false = le-ltb _ _ (omega (arith, all, gap_len)) in
+    let enough : ltb (l.to - l.from - data_gap flags l.from) (length bytes) ≡ false = le-ltb _ _ (omega (arith, all, gap_len)) in
+    rw (room, enough) (ap (λ n. Ok (l.from + n)) (sym gap_len))

@@ -4,13 +4,12 @@ use Rattle.std.proofs.lemmas.Bool.{ltb-false, ltb-true, le-ltb, eqb-true}
 use Rattle.std.proofs.lemmas.List.{append-nil}
 use Rattle.addr_unityfs.specs.declared.bundle.Bundle.{Bundle}
 use Rattle.addr_unityfs.specs.Faults as faults
-use Rattle.addr_unityfs.specs.Faults.{Layout}
+use Rattle.addr_unityfs.specs.Faults.{Sections, ◌>>=◌, place, whole, laid, sections_at, unless, header_fault, head_at, header_read, sections_read, behind_read, bundle_read}
 use Rattle.addr_unityfs.specs.declared.error.FsErr.{FsErr}
 use Rattle.addr_unityfs.specs.declared.error.FsErr.TheVariants.{Short}
 use Rattle.addr_unityfs.specs.declared.stage.Stage.{Stage}
 use Rattle.addr_unityfs.specs.declared.stage.Stage.TheVariants.{Head, Info, Rest, Bad}
 use Rattle.addr_unityfs.specs.Flags.{is_at_end, header_gap}
-use Rattle.addr_unityfs.specs.Faults.{◌>>=◌, place, whole, laid, layout_at, unless, header_fault, head_at, header_read, layout_read, behind_read, bundle_read}
 use Rattle.addr_unityfs.specs.Early.{told, fault_of, early_behind, early_read, early_of}
 use Rattle.addr_unityfs.specs.within.Stages.{told_stage, done_stage, laid_stage, header_stage, stage_of, fault_in}
 use Rattle.addr_unityfs.proofs.FieldLaws.{bind_ok, guard_ok, ok_is, unless_ok}
@@ -45,7 +44,7 @@ gate_stays true false until len r s more past below same = λ lt. absurd (omega 
 gate_stays false true until len r s more past below same = absurd (bool_clash (more refl))
 gate_stays false false until len r s more past below same = same_stays len (done_stage r) (done_stage s) (ap done_stage (same refl))
 
-laid_stays : (total : ℕ) (old piece : List ℕ) (h : faults.Head) (r : Result Layout FsErr) → Stays (length (old ++ piece)) (laid_stage total old h r) (laid_stage total (old ++ piece) h r)
+laid_stays : (total : ℕ) (old piece : List ℕ) (h : faults.Head) (r : Result Sections FsErr) → Stays (length (old ++ piece)) (laid_stage total old h r) (laid_stage total (old ++ piece) h r)
 laid_stays total old piece h (Err e) = refl
 laid_stays total old piece h (Ok l) =
     let until = l.info + h.stored in
@@ -67,7 +66,7 @@ err_stays false old len e after all some = told_bad old len e after some
 
 header_stays : (total : ℕ) (old piece : List ℕ) (r s : Result (faults.Head × ℕ) FsErr) → (length old ≡ total → (s ≡ r) × (length (old ++ piece) ≡ total)) → GoesOn r s (λ x. x)
     → Stays (length (old ++ piece)) (header_stage total old r) (header_stage total (old ++ piece) s)
-header_stays total old piece (Ok x) s none goes = subst (λ t. Stays (length (old ++ piece)) (laid_stage total old x.0 (layout_read total x.0 x.1)) (header_stage total (old ++ piece) t)) (sym (goes.value x refl)) (laid_stays total old piece x.0 (layout_read total x.0 x.1))
+header_stays total old piece (Ok x) s none goes = subst (λ t. Stays (length (old ++ piece)) (laid_stage total old x.0 (sections_read total x.0 x.1)) (header_stage total (old ++ piece) t)) (sym (goes.value x refl)) (laid_stays total old piece x.0 (sections_read total x.0 x.1))
 header_stays total old piece (Err e) s none goes =
     err_stays (eqb (length old) total) old (length (old ++ piece)) e (header_stage total (old ++ piece) s)
     (λ whole. let n = none (eqb-true _ _ whole) in ap (header_stage total (old ++ piece)) n.0 ∙ rw (n.1, eq-eqb total total refl) refl)
@@ -99,21 +98,21 @@ laid_inside : (at_end : Bool) (total stored at gap : ℕ) → gap + stored ≤ t
 laid_inside true total stored at gap room long = omega (arith, room, long)
 laid_inside false total stored at gap room long = omega (arith, room, long)
 
-layout_inside : (total at : ℕ) (h : faults.Head) (l : Layout) → at ≤ total → layout_read total h at ≡ Ok l → l.info + h.stored ≤ total
-unfolding layout_read layout_at
-layout_inside total at h l long e =
+sections_inside : (total at : ℕ) (h : faults.Head) (l : Sections) → at ≤ total → sections_read total h at ≡ Ok l → l.info + h.stored ≤ total
+unfolding sections_read sections_at
+sections_inside total at h l long e =
     let tested = bind_ok (unless (header_fault total h) at) _ l e in
     let same = (unless_ok (header_fault total h) at tested.0 tested.1).1 in
     let gap = header_gap h.version tested.0 in
     let passed = guard_ok (ltb (total - tested.0) (gap + h.stored)) (Short total) (laid (is_at_end h.flags) total h.stored (tested.0 + gap)) l tested.2 in
-    subst (λ (m : Layout). m.info + h.stored ≤ total) passed.1 (laid_inside (is_at_end h.flags) total h.stored tested.0 gap (omega (arith, ltb-false _ _ passed.0)) (omega (arith, same, long)))
+    subst (λ (m : Sections). m.info + h.stored ≤ total) passed.1 (laid_inside (is_at_end h.flags) total h.stored tested.0 gap (omega (arith, ltb-false _ _ passed.0)) (omega (arith, same, long)))
 
 gate_fault : (b : Bool) (until : ℕ) (r : Result Bundle FsErr) → cond b None (fault_of r) ≡ fault_in (cond b (Info until) (done_stage r))
 gate_fault true until r = refl
 gate_fault false until (Ok b) = refl
 gate_fault false until (Err e) = refl
 
-laid_fault : (total : ℕ) (bytes : List ℕ) (h : faults.Head) (r : Result Layout FsErr) → early_behind total bytes h r ≡ fault_in (laid_stage total bytes h r)
+laid_fault : (total : ℕ) (bytes : List ℕ) (h : faults.Head) (r : Result Sections FsErr) → early_behind total bytes h r ≡ fault_in (laid_stage total bytes h r)
 laid_fault total bytes h (Err e) = refl
 laid_fault total bytes h (Ok l) = gate_fault (ltb (length bytes) (l.info + h.stored)) (l.info + h.stored) (behind_read total h l bytes)
 
@@ -123,17 +122,17 @@ told_fault bytes e = refl
 
 part_fault : (total : ℕ) (bytes : List ℕ) (r : Result (faults.Head × ℕ) FsErr) → eqb (length bytes) total ≡ false → early_read total bytes r ≡ fault_in (header_stage total bytes r)
 part_fault total bytes (Err e) out = rw out (told_fault bytes e)
-part_fault total bytes (Ok x) out = laid_fault total bytes x.0 (layout_read total x.0 x.1)
+part_fault total bytes (Ok x) out = laid_fault total bytes x.0 (sections_read total x.0 x.1)
 
 -- in a file that is whole the blocks info is in
-whole_laid : (total : ℕ) (bytes : List ℕ) (h : faults.Head) (r : Result Layout FsErr) → ((l : Layout) → r ≡ Ok l → ltb (length bytes) (l.info + h.stored) ≡ false) → fault_of (r >>= (λ l. behind_read total h l bytes)) ≡ fault_in (laid_stage total bytes h r)
+whole_laid : (total : ℕ) (bytes : List ℕ) (h : faults.Head) (r : Result Sections FsErr) → ((l : Sections) → r ≡ Ok l → ltb (length bytes) (l.info + h.stored) ≡ false) → fault_of (r >>= (λ l. behind_read total h l bytes)) ≡ fault_in (laid_stage total bytes h r)
 whole_laid total bytes h (Err e) inside = refl
 whole_laid total bytes h (Ok l) inside = rw (inside l refl) (gate_fault false 0 (behind_read total h l bytes))
 
 whole_fault : (total : ℕ) (bytes : List ℕ) (r : Result (faults.Head × ℕ) FsErr) → eqb (length bytes) total ≡ true → length bytes ≡ total → ((x : faults.Head × ℕ) → r ≡ Ok x → x.1 ≤ length bytes)
-    → fault_of (r >>= (λ x. layout_read total x.0 x.1 >>= (λ l. behind_read total x.0 l bytes))) ≡ fault_in (header_stage total bytes r)
+    → fault_of (r >>= (λ x. sections_read total x.0 x.1 >>= (λ l. behind_read total x.0 l bytes))) ≡ fault_in (header_stage total bytes r)
 whole_fault total bytes (Err e) all len inside = rw all refl
-whole_fault total bytes (Ok x) all len inside = whole_laid total bytes x.0 (layout_read total x.0 x.1) (λ l e. le-ltb _ _ (omega (arith, layout_inside total x.1 x.0 l (omega (arith, inside x refl, len)) e, len)))
+whole_fault total bytes (Ok x) all len inside = whole_laid total bytes x.0 (sections_read total x.0 x.1) (λ l e. le-ltb _ _ (omega (arith, sections_inside total x.1 x.0 l (omega (arith, inside x refl, len)) e, len)))
 
 header_inside : (bytes : List ℕ) (x : faults.Head × ℕ) → header_read bytes ≡ Ok x → x.1 ≤ length bytes
 unfolding header_read
@@ -145,7 +144,7 @@ header_inside bytes x e =
 of_fault : (b : Bool) (total : ℕ) (bytes : List ℕ) → eqb (length bytes) total ≡ b → cond b (fault_of (bundle_read bytes)) (early_read total bytes (header_read bytes)) ≡ fault_in (header_stage total bytes (header_read bytes))
 unfolding bundle_read
 of_fault true total bytes e =
-    ap (λ (n : ℕ). fault_of (header_read bytes >>= (λ x. layout_read n x.0 x.1 >>= (λ l. behind_read n x.0 l bytes)))) (eqb-true _ _ e)
+    ap (λ (n : ℕ). fault_of (header_read bytes >>= (λ x. sections_read n x.0 x.1 >>= (λ l. behind_read n x.0 l bytes)))) (eqb-true _ _ e)
     ∙ whole_fault total bytes (header_read bytes) e (eqb-true _ _ e) (header_inside bytes)
 of_fault false total bytes e = part_fault total bytes (header_read bytes) e
 

@@ -7,13 +7,12 @@ use Rattle.std.proofs.lemmas.List.{drop_at, take_rest}
 use Rattle.std.proofs.lemmas.List.Folds.{prefix_len-append}
 use Rattle.std.proofs.lemmas.List.Sums.{prefix_len-le-length}
 use Rattle.addr_unityfs.specs.Faults as faults
-use Rattle.addr_unityfs.specs.Faults.{Layout}
+use Rattle.addr_unityfs.specs.Faults.{Sections, ◌>>=◌, Tail, place, whole, cut_at_zero, text_at, signature_at, version_at, head_at, header_read, sections_read, behind_read}
 use Rattle.addr_unityfs.specs.declared.bundle.Bundle.{Bundle}
 use Rattle.addr_unityfs.specs.declared.error.FsErr.{FsErr}
 use Rattle.addr_unityfs.specs.declared.error.FsErr.TheVariants.{Short}
 use Rattle.addr_unityfs.specs.declared.stage.Stage.{Stage}
 use Rattle.addr_unityfs.specs.declared.stage.Stage.TheVariants.{Head, Info, Bad}
-use Rattle.addr_unityfs.specs.Faults.{◌>>=◌, Tail, place, whole, cut_at_zero, text_at, signature_at, version_at, head_at, header_read, layout_read, behind_read}
 use Rattle.addr_unityfs.specs.within.Stages.{start_at, texts_at, text_open, in_text, told_stage, done_stage, laid_stage, header_stage, stage_of}
 use Rattle.addr_unityfs.proofs.FieldLaws.{bind_ok, is_zero, ok_is}
 use Rattle.addr_unityfs.proofs.OnLaws.{on, GoesOn, ok_goes, goes_then, signature_goes, version_goes, text_goes, whole_on}
@@ -139,13 +138,13 @@ done_text true until r same = absurd cc
 done_text false until (Ok b) same = absurd cc
 done_text false until (Err e) same = absurd cc
 
-laid_text : (total : ℕ) (bytes : List ℕ) (h : faults.Head) (r : Result Layout FsErr) → Head true ≡ laid_stage total bytes h r → ⊥
+laid_text : (total : ℕ) (bytes : List ℕ) (h : faults.Head) (r : Result Sections FsErr) → Head true ≡ laid_stage total bytes h r → ⊥
 laid_text total bytes h (Err e) same = absurd cc
 laid_text total bytes h (Ok l) same = done_text (ltb (length bytes) (l.info + h.stored)) (l.info + h.stored) (behind_read total h l bytes) same
 
 stage_text : (total : ℕ) (bytes : List ℕ) (r : Result (faults.Head × ℕ) FsErr) → Head true ≡ header_stage total bytes r → in_text bytes ≡ true
 stage_text total bytes (Err e) same = err_text (eqb (length bytes) total) bytes e same
-stage_text total bytes (Ok x) same = absurd (laid_text total bytes x.0 (layout_read total x.0 x.1) same)
+stage_text total bytes (Ok x) same = absurd (laid_text total bytes x.0 (sections_read total x.0 x.1) same)
 
 short_stage : (b : Bool) (bytes : List ℕ) (at : ℕ) → b ≡ false → in_text bytes ≡ true → cond b (Bad (Short at)) (told_stage bytes (Short at)) ≡ Head true
 short_stage true bytes at out opened = absurd cc

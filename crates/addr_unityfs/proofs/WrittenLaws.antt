@@ -17,7 +17,7 @@ use Rattle.addr_unityfs.specs.Format.{NoZero, IsBlock, IsNode, IsFile, bundle_of
 use Rattle.addr_unityfs.specs.Written.{placed, plain_block, blocks_of, data_of, unpadded, written_parts, written_len, written, CanWrite, IsTyped, node_read, ReadsBack}
 use Rattle.addr_unityfs.specs.within.Lengths.{row_len, bytes_len}
 use Rattle.addr_unityfs.proofs.Regroup.{after_four}
-use Rattle.addr_unityfs.proofs.ReadLaws.{is_read}
+use Rattle.addr_unityfs.proofs.AgainLaws.{is_read}
 use Rattle.addr_unityfs.proofs.WrittenLengths.{lengths}
 use Rattle.addr_unityfs.proofs.WrittenRows.{length-placed}
 
@@ -161,11 +161,14 @@ sizes_sum : (f : NodeSize → ℕ) (nodes : List NodeOut) → sum_by f (map size
 sizes_sum f [] = refl
 sizes_sum f (n ∷ ns) = sum_by-cons f (size_of n) (map size_of ns) ∙ (ap (λ k. f (size_of n) + k) (sizes_sum f ns) ∙ sym (sum_by-cons (λ m. f (size_of m)) n ns))
 
-pub written_size : (player : List ℕ) (nodes : List NodeOut) → length (written player nodes) ≡ file_size (length player) (map size_of nodes)
+pub size_is : (player : List ℕ) (nodes : List NodeOut) → written_len player nodes ≡ file_size (length player) (map size_of nodes)
 unfolding file_size
-written_size player nodes =
+size_is player nodes =
     let l = lengths player nodes in
     let bytes : data_size (map size_of nodes) ≡ length (data_of nodes) = sizes_sum (λ n. n.bytes) nodes ∙ sym l.payload_is in
     let rows : sum_by (λ n. 21 + n.path) (map size_of nodes) ≡ sum_by row_len nodes = sizes_sum (λ n. 21 + n.path) nodes in
     let count : length (blocks_of (data_size (map size_of nodes))) ≡ length (blocks_of (length (data_of nodes))) = ap (λ n. length (blocks_of n)) bytes in
-    same_len player nodes ∙ (l.file_is ∙ omega (arith, bytes, rows, count, l.payload_is))
+    l.file_is ∙ omega (arith, bytes, rows, count, l.payload_is)
+
+pub written_size : (player : List ℕ) (nodes : List NodeOut) → length (written player nodes) ≡ file_size (length player) (map size_of nodes)
+written_size player nodes = same_len player nodes ∙ size_is player nodes

@@ -1,11 +1,9 @@
 -- What the bytes that came so far decide of a file whose length is known: its first fault, before the rest is there.
-use Rattle.std.specs.Prelude.{ℕ, ◌+◌, List, length, take, drop, Bool, ◌||◌, Option, Some, None, Result, Ok, Err, nat_lt, ◌==◌, if◌then◌else◌}
+use Rattle.std.specs.Prelude.{ℕ, List, length, take, drop, Bool, ◌||◌, Option, Some, None, Result, Ok, Err, nat_lt, ◌==◌, if◌then◌else◌}
 use Rattle.std.specs.Int.{w32, from_be_bytes}
-use Rattle.addr_unityfs.specs.Faults.{Head}
-use Rattle.addr_unityfs.specs.Faults.{Layout}
+use Rattle.addr_unityfs.specs.Faults.{Head, Sections, info_end, header_read, sections_read, behind_read, bundle_read}
 use Rattle.addr_unityfs.specs.declared.error.FsErr.{FsErr}
 use Rattle.addr_unityfs.specs.declared.error.FsErr.TheVariants.{Short}
-use Rattle.addr_unityfs.specs.Faults.{header_read, layout_read, behind_read, bundle_read}
 
 -- a fault of the bytes so far is told, unless it is only that a field is not in yet
 abbrev pub told : FsErr → Option FsErr
@@ -17,14 +15,14 @@ fault_of (Ok x) = None
 fault_of (Err e) = Some e
 
 -- behind the header: the tests on it and on the sections at once, all others when the blocks info is in
-abbrev pub early_behind : ℕ → List ℕ → Head → Result Layout FsErr → Option FsErr
+abbrev pub early_behind : ℕ → List ℕ → Head → Result Sections FsErr → Option FsErr
 early_behind total bytes h (Err e) = Some e
-early_behind total bytes h (Ok l) = if nat_lt (length bytes) (l.info + h.stored) then None else fault_of (behind_read total h l bytes)
+early_behind total bytes h (Ok l) = if nat_lt (length bytes) (info_end h l) then None else fault_of (behind_read total h l bytes)
 
 -- the signature and the version as soon as they are in, all other tests on the header when the whole header is
 abbrev pub early_read : ℕ → List ℕ → Result (Head × ℕ) FsErr → Option FsErr
 early_read total bytes (Err e) = told e
-early_read total bytes (Ok x) = early_behind total bytes x.0 (layout_read total x.0 x.1)
+early_read total bytes (Ok x) = early_behind total bytes x.0 (sections_read total x.0 x.1)
 
 -- of bytes that are at most the file
 unfoldable pub early_of : ℕ → List ℕ → Option FsErr

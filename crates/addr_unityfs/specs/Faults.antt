@@ -25,10 +25,14 @@ pub record Head : Type 0 where
   pub flags : ℕ
 
 -- the place of the blocks info, and the places from which and to which the data and its padding may reach
-pub record Layout : Type 0 where
+pub record Sections : Type 0 where
   pub info : ℕ
   pub from : ℕ
   pub to : ℕ
+
+-- where the blocks info ends
+abbrev pub info_end : Head → Sections → ℕ
+info_end h l = l.info + h.stored
 
 -- what is still to be read, with the place in the file or table where it ends
 pub record Tail : Type 0 where
@@ -110,28 +114,28 @@ unless None x = Ok x
 unless (Some e) x = Err e
 
 -- the two sections behind the padded header in a file of so many bytes, by the place of the blocks info
-abbrev pub laid : Bool → ℕ → ℕ → ℕ → Layout
+abbrev pub laid : Bool → ℕ → ℕ → ℕ → Sections
 laid true len stored at = record { info = len - stored; from = at; to = len - stored }
 laid false len stored at = record { info = at; from = at + stored; to = len }
 
 -- the sections of a file of so many bytes, whose header ends at a place
-unfoldable pub layout_at : ℕ → Head → ℕ → Result Layout FsErr
-layout_at len h at =
+unfoldable pub sections_at : ℕ → Head → ℕ → Result Sections FsErr
+sections_at len h at =
     let gap = header_gap h.version at in
     if nat_lt (len - at) (gap + h.stored) then Err (Short len)
     else Ok (laid (is_at_end h.flags) len h.stored (at + gap))
 
 -- the tests on the header, and the sections
-unfoldable pub layout_read : ℕ → Head → ℕ → Result Layout FsErr
-layout_read len h at = do
+unfoldable pub sections_read : ℕ → Head → ℕ → Result Sections FsErr
+sections_read len h at = do
   tested ← unless (header_fault len h) at
-  layout_at len h tested
+  sections_at len h tested
 
 -- the header with its tests, and the sections: all that is read of a file before anything is kept of it
-unfoldable pub front_read : List ℕ → Result Layout FsErr
+unfoldable pub front_read : List ℕ → Result Sections FsErr
 front_read file = do
   head ← header_read file
-  layout_read (length file) head.0 head.1
+  sections_read (length file) head.0 head.1
 
 -- the bytes of a file from a place on, so many of them
 abbrev pub part : ℕ → ℕ → List ℕ → Tail
@@ -192,7 +196,7 @@ info_at c = do
   Ok (sum.0, places)
 
 -- where so many bytes of data begin, behind their padding, in a file of len bytes
-unfoldable pub data_at : ℕ → ℕ → ℕ → Layout → Result ℕ FsErr
+unfoldable pub data_at : ℕ → ℕ → ℕ → Sections → Result ℕ FsErr
 data_at len flags sum l =
     let gap = data_gap flags l.from in
     if nat_lt (l.to - l.from) gap then Err (Short len)
@@ -212,7 +216,7 @@ unfoldable pub range_fault : ℕ → List NodePlace → Option FsErr
 range_fault room nodes = range_fault_at (position (is_outside room) nodes)
 
 -- what follows the header: the blocks info, the data and the ranges, in a file of len bytes of which the blocks info is in
-unfoldable pub behind_read : ℕ → Head → Layout → List ℕ → Result Bundle FsErr
+unfoldable pub behind_read : ℕ → Head → Sections → List ℕ → Result Bundle FsErr
 behind_read len h l file = do
   info ← info_at (part l.info h.stored file)
   start ← data_at len h.flags info.0 l
@@ -222,8 +226,8 @@ behind_read len h l file = do
 unfoldable pub bundle_read : List ℕ → Result Bundle FsErr
 bundle_read file = do
   head ← header_read file
-  layout ← layout_read (length file) head.0 head.1
-  behind_read (length file) head.0 layout file
+  sections ← sections_read (length file) head.0 head.1
+  behind_read (length file) head.0 sections file
 
 -- the answer of a call is what reading gives, unless memory was refused
 abbrev pub Answers : {A : Type 0} → Result A FsErr → Result A FsErr → Type 0

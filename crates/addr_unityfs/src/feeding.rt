@@ -115,7 +115,8 @@ fn read_kept(
     kept: Vec<u8>,
 ) -> Result<Result<(Items<u8>, Bundle), FsErr>, NoMemory>
     ensures bad { (e : FsErr) → stage ≡ Bad e → result ≡ Ok (Err e) }
-    ensures read { is_bad stage ≡ false → IfOk result (λ read. read ≡ read_with kept.items (bundle_read kept.items)) }
+    ensures read { is_bad stage ≡ false
+        → IfOk result (λ read. read ≡ read_with kept.items (bundle_read kept.items)) }
 {
     if let Some(fault) = stage.fault() {
         return Ok(Err(fault));

@@ -3,8 +3,8 @@ ghost use Rattle.std.specs.Prelude.{◌≡◌, ◌≢◌, ◌<◌, ◌≤◌, �
 ghost use Rattle.std.specs.List.{AllByRecursion};
 ghost use Rattle.addr_unityfs.specs.Spelling.{signature};
 ghost use Rattle.addr_unityfs.specs.Format.{AreBytes, IsBundle};
-ghost use Rattle.addr_unityfs.specs.Faults.{Head, Layout, header_read, layout_read, behind_read, bundle_read};
-ghost use Rattle.addr_unityfs.specs.Written.{CanWrite, IsTyped, ReadsBack, written};
+ghost use Rattle.addr_unityfs.specs.Faults.{Head, Sections, info_end, header_read, sections_read, behind_read, bundle_read};
+ghost use Rattle.addr_unityfs.specs.Written.{CanWrite, IsTyped, ReadsBack, written, written_len};
 ghost use Rattle.addr_unityfs.specs.Sizes.{size_of, file_size};
 ghost use Rattle.addr_unityfs.specs.Early.{early_at, fault_of, version_in, is_other_version};
 ghost use Rattle.addr_unityfs.specs.declared.bundle.NodeOut.{NodeOut};
@@ -29,7 +29,8 @@ pub fn bundle_laws()
     ensures back { (player : List ℕ) (nodes : List NodeOut) → CanWrite player nodes
         → AllByRecursion IsTyped nodes → ReadsBack (written player nodes) nodes }
     ensures size { (player : List ℕ) (nodes : List NodeOut)
-        → length (written player nodes) ≡ file_size (length player) (map size_of nodes) }
+        → (length (written player nodes) ≡ file_size (length player) (map size_of nodes))
+        × (written_len player nodes ≡ file_size (length player) (map size_of nodes)) }
 {}
 
 /// A fault that is told is the first fault of each file of that length that begins with these bytes; it stays told, and
@@ -47,12 +48,12 @@ pub fn early_laws()
         → take 8 (take total fed) ≡ signature → is_other_version (version_in (take total fed)) ≡ true
         → early_at total fed ≡ Some (Version (version_in (take total fed))) }
     ensures header { (total : ℕ) (fed : List ℕ) (head : Head) (end : ℕ) (e : FsErr)
-        → header_read (take total fed) ≡ Ok (head, end) → layout_read total head end ≡ Err e
+        → header_read (take total fed) ≡ Ok (head, end) → sections_read total head end ≡ Err e
         → early_at total fed ≡ Some e }
-    ensures info { (total : ℕ) (fed : List ℕ) (head : Head) (end : ℕ) (layout : Layout) (e : FsErr)
-        → header_read (take total fed) ≡ Ok (head, end) → layout_read total head end ≡ Ok layout
-        → layout.info + head.stored ≤ length (take total fed)
-        → behind_read total head layout (take total fed) ≡ Err e → early_at total fed ≡ Some e }
+    ensures info { (total : ℕ) (fed : List ℕ) (head : Head) (end : ℕ) (sections : Sections) (e : FsErr)
+        → header_read (take total fed) ≡ Ok (head, end) → sections_read total head end ≡ Ok sections
+        → info_end head sections ≤ length (take total fed)
+        → behind_read total head sections (take total fed) ≡ Err e → early_at total fed ≡ Some e }
     ensures whole { (total : ℕ) (fed : List ℕ) → total ≤ length fed
         → early_at total fed ≡ fault_of (bundle_read (take total fed)) }
 {}

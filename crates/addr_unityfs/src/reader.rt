@@ -2,7 +2,7 @@
 ghost use Rattle.std.specs.Prelude.{◌≡◌, ◌≢◌, ◌^◌, ◌<◌, ◌+◌, ◌≤◌, ◌↔◌, Ok, Err, IfOk, IfSome, All, length, position};
 ghost use Rattle.addr_unityfs.specs.Faults.{is_outside, range_fault, behind_read, front_read, bundle_read, Answers};
 ghost use Rattle.addr_unityfs.specs.Format.{IsBundle};
-ghost use Rattle.addr_unityfs.specs.within.Tails.{head, layout, Gives};
+ghost use Rattle.addr_unityfs.specs.within.Tails.{head, sections, Gives};
 ghost use Rattle.addr_unityfs.specs.declared.bundle.Bundle.{Bundle};
 ghost use Rattle.addr_unityfs.specs.declared.error.FsErr.{FsErr};
 ghost use Rattle.addr_unityfs.specs.declared.error.FsErr.TheVariants.{NoMemory};
@@ -12,7 +12,7 @@ use crate::bundle::{Bundle, NodePlace};
 use crate::error::FsErr;
 use crate::fields::part_of;
 use crate::header::{Head, header_of};
-use crate::sections::{Layout, data_start, layout_of};
+use crate::sections::{Sections, data_start, sections_of};
 use addr_base::Items;
 use std::alloc::Global;
 
@@ -46,12 +46,12 @@ pub fn behind_of(
     alloc: Global,
     len: u64,
     header: Head,
-    places: Layout,
+    places: Sections,
     file: &[u8],
 ) -> Result<Bundle, FsErr>
     requires info { places.info + header.stored ≤ length file.now }
     requires data { (places.from ≤ places.to) × (places.to ≤ len) }
-    ensures { Gives (λ b. b) result (behind_read len (head header) (layout places) file.now) }
+    ensures { Gives (λ b. b) result (behind_read len (head header) (sections places) file.now) }
 {
     let info = part_of(file, places.info as usize, header.stored as usize);
     let (sum, nodes) = info_of(alloc, info)?;
@@ -73,8 +73,8 @@ fn bundle_of(alloc: Global, file: &[u8]) -> Result<Bundle, FsErr>
 {
     let len = file.len() as u64;
     let (head, end) = header_of(file)?;
-    let layout = layout_of(len, head, end)?;
-    behind_of(alloc, len, head, layout, file)
+    let sections = sections_of(len, head, end)?;
+    behind_of(alloc, len, head, sections, file)
 }
 
 /// The bundle that the file is. Takes memory for the nodes and their paths alone, and only for rows that are there.

@@ -1,13 +1,13 @@
 // How far a file that arrives has been read, and from one stage to the next: the blocks info is read once, when its last
 // byte is in, and the header anew only where a text or its last fields may have come in.
-ghost use Rattle.std.specs.Prelude.{◌≡◌, ◌≤◌, ◌++◌, ℕ, List, length, position, ◌==◌, false, None, IfOk, IsTrue, ◌↔◌};
-ghost use Rattle.addr_unityfs.specs.within.Stages.{stage_of, told_stage, fault_in, is_bad};
+ghost use Rattle.std.specs.Prelude.{◌≡◌, ◌≤◌, ◌++◌, ℕ, List, length, position, ◌==◌, false, None, Err, IfOk, IsTrue, ◌↔◌};
+ghost use Rattle.addr_unityfs.specs.within.Stages.{stage_of, header_stage, told_stage, fault_in, is_bad};
 
 use crate::error::FsErr;
 use crate::fields::first_zero;
 use crate::header::{header_of, in_text};
 use crate::reader::behind_of;
-use crate::sections::layout_of;
+use crate::sections::sections_of;
 use addr_base::NoMemory;
 use std::alloc::Global;
 
@@ -67,6 +67,17 @@ fn told(bytes: &[u8], fault: FsErr) -> Stage
     }
 }
 
+/// The stage of bytes whose header cannot be read: with a file's last byte the fault is known, whatever it is.
+fn without_header(total: u64, bytes: &[u8], fault: FsErr) -> Stage
+    ensures { result ≡ header_stage total bytes.now (Err fault) }
+{
+    if bytes.len() as u64 == total {
+        Stage::Bad(fault)
+    } else {
+        told(bytes, fault)
+    }
+}
+
 fn has_no_zero(bytes: &[u8]) -> bool
     ensures { IsTrue result ↔ (position (λ b. b == 0) bytes.now ≡ None) }
 {
@@ -82,23 +93,17 @@ pub fn stage_at(alloc: Global, total: u64, bytes: &[u8]) -> Result<Stage, NoMemo
     let len = bytes.len() as u64;
     let (head, end) = match header_of(bytes) {
         Ok(header) => header,
-        Err(fault) => {
-            return Ok(if len == total {
-                Stage::Bad(fault)
-            } else {
-                told(bytes, fault)
-            });
-        }
+        Err(fault) => return Ok(without_header(total, bytes, fault)),
     };
-    let layout = match layout_of(total, head, end) {
-        Ok(layout) => layout,
+    let sections = match sections_of(total, head, end) {
+        Ok(sections) => sections,
         Err(fault) => return Ok(Stage::Bad(fault)),
     };
-    let until = layout.info + head.stored as u64;
+    let until = sections.info + head.stored as u64;
     if len < until {
         return Ok(Stage::Info { until });
     }
-    match behind_of(alloc, total, head, layout, bytes) {
+    match behind_of(alloc, total, head, sections, bytes) {
         Ok(_) => Ok(Stage::Rest),
         Err(FsErr::NoMemory) => Err(NoMemory),
         Err(fault) => Ok(Stage::Bad(fault)),
@@ -115,7 +120,8 @@ pub fn advance(
 ) -> Result<Stage, NoMemory>
     requires few { length bytes.now ≤ total }
     requires old { before ≤ length bytes.now }
-    ensures { IfOk result (λ s. (old : List ℕ) → (piece : List ℕ) → bytes.now ≡ old ++ piece → length old ≡ before → stage ≡ stage_of total old → s ≡ stage_of total bytes.now) }
+    ensures { IfOk result (λ s. (old piece : List ℕ) → bytes.now ≡ old ++ piece → length old ≡ before
+        → stage ≡ stage_of total old → s ≡ stage_of total bytes.now) }
 {
     match stage {
         Stage::Head { text } => {

@@ -1,13 +1,12 @@
 -- How far the bytes so far are read, as a function of them.
-use Rattle.std.specs.Prelude.{ℕ, ◌+◌, List, length, Bool, true, false, Option, Some, None, Result, Ok, Err, is_err, nat_lt, ◌==◌, if◌then◌else◌}
+use Rattle.std.specs.Prelude.{ℕ, List, length, Bool, true, false, Option, Some, None, Result, Ok, Err, is_err, nat_lt, ◌==◌, if◌then◌else◌}
 use Rattle.addr_unityfs.specs.declared.bundle.Bundle.{Bundle}
 use Rattle.addr_unityfs.specs.Faults as faults
-use Rattle.addr_unityfs.specs.Faults.{Layout}
+use Rattle.addr_unityfs.specs.Faults.{Sections, info_end, ◌>>=◌, Tail, whole, signature_at, version_at, text_at, header_read, sections_read, behind_read}
 use Rattle.addr_unityfs.specs.declared.error.FsErr.{FsErr}
 use Rattle.addr_unityfs.specs.declared.error.FsErr.TheVariants.{Short}
 use Rattle.addr_unityfs.specs.declared.stage.Stage.{Stage}
 use Rattle.addr_unityfs.specs.declared.stage.Stage.TheVariants.{Head, Info, Rest, Bad}
-use Rattle.addr_unityfs.specs.Faults.{◌>>=◌, Tail, whole, signature_at, version_at, text_at, header_read, layout_read, behind_read}
 
 -- behind the version
 unfoldable pub start_at : Tail → Result Tail FsErr
@@ -38,13 +37,13 @@ abbrev pub done_stage : Result Bundle FsErr → Stage
 done_stage (Ok b) = Rest
 done_stage (Err e) = Bad e
 
-abbrev pub laid_stage : ℕ → List ℕ → faults.Head → Result Layout FsErr → Stage
+abbrev pub laid_stage : ℕ → List ℕ → faults.Head → Result Sections FsErr → Stage
 laid_stage total bytes h (Err e) = Bad e
-laid_stage total bytes h (Ok l) = if nat_lt (length bytes) (l.info + h.stored) then Info (l.info + h.stored) else done_stage (behind_read total h l bytes)
+laid_stage total bytes h (Ok l) = if nat_lt (length bytes) (info_end h l) then Info (info_end h l) else done_stage (behind_read total h l bytes)
 
 abbrev pub header_stage : ℕ → List ℕ → Result (faults.Head × ℕ) FsErr → Stage
 header_stage total bytes (Err e) = if length bytes == total then Bad e else told_stage bytes e
-header_stage total bytes (Ok x) = laid_stage total bytes x.0 (layout_read total x.0 x.1)
+header_stage total bytes (Ok x) = laid_stage total bytes x.0 (sections_read total x.0 x.1)
 
 unfoldable pub stage_of : ℕ → List ℕ → Stage
 stage_of total bytes = header_stage total bytes (header_read bytes)

@@ -5,7 +5,7 @@ use Rattle.addr_unityfs.specs.declared.error.FsErr.{FsErr}
 use Rattle.addr_unityfs.specs.declared.error.FsErr.TheVariants.{NoMemory}
 use Rattle.addr_unityfs.specs.declared.header as headers
 use Rattle.addr_unityfs.specs.declared.sections as places
-use Rattle.addr_unityfs.specs.Faults.{Tail, Head, Layout}
+use Rattle.addr_unityfs.specs.Faults.{Tail, Head, Sections}
 
 abbrev pub tail : Cursor → Tail
 tail c = record { end = c.end; rest = c.rest.now }
@@ -13,8 +13,8 @@ tail c = record { end = c.end; rest = c.rest.now }
 abbrev pub head : headers.Head.Head → Head
 head h = record { version = h.version; size = h.size; stored = h.stored; plain = h.plain; flags = h.flags }
 
-abbrev pub layout : places.Layout.Layout → Layout
-layout l = record { info = l.info; from = l.from; to = l.to }
+abbrev pub sections : places.Sections.Sections → Sections
+sections l = record { info = l.info; from = l.from; to = l.to }
 
 -- what a call returned, seen by view, is what reading gives
 abbrev pub Reads : {X Y : Type 0} → (X → Y) → Result X FsErr → Result Y FsErr → Type 0

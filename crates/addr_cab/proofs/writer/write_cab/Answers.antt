@@ -21,3 +21,6 @@ pub returns-clause-holds : goal.returns-clause-holds
 returns-clause-holds c = λ file name sixteen read.
     written_holds file name c.args.objects.now c.in_ok-table.table.items c.in_ok-content.content.items sixteen
     (record { typed = c.in_ok-table.ensures.typed; can = c.requires; table_is = c.in_ok-table.ensures.text; content_is = c.in_ok-content.ensures }) read
+
+pub returns-clause-text : goal.returns-clause-text
+returns-clause-text c = record { typed = c.in_ok-table.ensures.typed; can = c.requires; table_is = c.in_ok-table.ensures.text; content_is = c.in_ok-content.ensures }

@@ -1,6 +1,6 @@
 use Rattle.addr_unityfs.proofs.Promises.{is_bundle, nodes_inside, bundle_or_fault, not_both, one_bundle}
-use Rattle.addr_unityfs.proofs.ReadLaws.{bundle_named}
-use Rattle.addr_unityfs.proofs.WrittenLaws.{reads_back, written_size}
+use Rattle.addr_unityfs.proofs.NamedLaws.{bundle_named}
+use Rattle.addr_unityfs.proofs.WrittenLaws.{reads_back, size_is, written_size}
 use Rattle.addr_unityfs.proofs.laws.bundle_laws.Goals as goal
 
 pub returns-clause-meant : goal.returns-clause-meant
@@ -25,4 +25,4 @@ pub returns-clause-back : goal.returns-clause-back
 returns-clause-back c = reads_back
 
 pub returns-clause-size : goal.returns-clause-size
-returns-clause-size c = written_size
+returns-clause-size c = λ player nodes. (written_size player nodes, size_is player nodes)

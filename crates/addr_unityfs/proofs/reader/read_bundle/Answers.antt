@@ -2,7 +2,7 @@ use Rattle.std.proofs.Common.{rules, arith}
 use Rattle.addr_unityfs.specs.Faults.{bundle_read}
 use Rattle.addr_unityfs.proofs.Answered.{answers}
 use Rattle.addr_unityfs.proofs.Promises.{is_bundle, found, only, found_inside}
-use Rattle.addr_unityfs.proofs.ReadLaws.{bundle_named}
+use Rattle.addr_unityfs.proofs.NamedLaws.{bundle_named}
 use Rattle.addr_unityfs.proofs.reader.read_bundle.Goals as goal
 
 pub returns-clause-found : goal.returns-clause-found
