@@ -134,8 +134,14 @@ fn fault_with(alloc: Global, provider: &str) -> Result<Option<CatErr>, NoMemory>
 
 #[test]
 fn faults_come_at_their_places(rt: HostRuntime) -> Result<(), Fail> {
+    let json = read_catalog(rt.alloc(), b"x").err();
+    assert!(rt; matches!(json, Some(CatErr::Json)));
+    let member = read_catalog(rt.alloc(), b"{}").err();
+    assert!(rt; matches!(member, Some(CatErr::Member { which: 1 })));
     let tables = read_catalog(rt.alloc(), NO_TABLES.as_bytes()).err();
     assert!(rt; tables.is_some_and(|fault| fault.number() == 3));
+    let other = fault_with(rt.alloc(), "x").ok().ok_or("memory")?;
+    assert!(rt; matches!(other, Some(CatErr::Provider { entry: 0 })));
     let bundle = fault_with(rt.alloc(), BUNDLE_PROVIDER)
         .ok()
         .ok_or("memory")?;

@@ -1,5 +1,5 @@
 -- The body of a text: what is read from a body has that body, and what a text's body holds reads as the text.
-use Rattle.std.proofs.Common.{◌≡◌, ℕ, zero, suc, ◌*◌, ◌%◌, ◌^◌, ◌<◌, true, false, eqb, List, [], ◌∷◌, ◌++◌, length, get_or, Ok, refl, sym, ap, subst, ◌∙◌, arith, inl, inr}
+use Rattle.std.proofs.Common.{◌≡◌, ℕ, zero, suc, ◌*◌, ◌%◌, ◌^◌, ◌<◌, true, false, eqb, List, [], ◌∷◌, ◌++◌, length, Ok, refl, sym, ap, subst, ◌∙◌, arith, inl, inr}
 use Rattle.std.specs.Prelude.{◌||◌, IsUtf8, chars, encode_utf8_all}
 use Rattle.std.specs.List.{flat_map}
 use Rattle.std.specs.Int.{w16, to_le_bytes, from_le_bytes}
@@ -13,13 +13,10 @@ use Rattle.std.proofs.lemmas.Str.{scalars-chars, chars-encodes}
 use Rattle.std.proofs.lemmas.List.Concat.{flat_map-cons}
 use Rattle.addr_reading.proofs.StepLaws.{ok_is, chosen, guarded}
 use Rattle.addr_keys.specs.declared.error.KeyErr.TheVariants.{NotAscii, Surrogate}
-use Rattle.addr_keys.specs.Format.{is_ascii, utf16_units, utf16_bytes}
+use Rattle.addr_keys.specs.Format.{IsBytes, is_ascii, utf16_units, utf16_bytes}
 use Rattle.addr_keys.specs.Faults.{ascii_of, units_of, utf16_of}
 use Rattle.addr_keys.proofs.TextLemmas.{both_true}
 use Rattle.addr_keys.proofs.Utf16Lemmas.{AreUnits, reads_as, are_spelled, either_false}
-
-abbrev pub IsBytes : List ℕ → Type 0
-IsBytes bytes = (i : ℕ) → get_or bytes i 0 < 256
 
 -- ---- ASCII
 

@@ -9,9 +9,9 @@ use Rattle.std.proofs.lemmas.List.{take_at, drop_at, take-append-drop, length-ap
 use Rattle.std.proofs.lemmas.Nat.{le_bytes_2, le_bytes_4, from_le_bytes-to_le_bytes_2, from_le_bytes-to_le_bytes_4}
 use Rattle.addr_reading.proofs.StepLaws.{bind_ok, ok_is, chosen, guarded}
 use Rattle.addr_keys.specs.declared.error.KeyErr.TheVariants.{Short, Negative}
-use Rattle.addr_keys.specs.Format.{is_ascii, utf16_bytes, short, long, IsShort, IsLong, IsWide}
+use Rattle.addr_keys.specs.Format.{IsBytes, is_ascii, utf16_bytes, short, long, IsShort, IsLong, IsWide}
 use Rattle.addr_keys.specs.Faults.{key_first, body_of_kind, byte_at, number_at, length_at, body_at, ascii_of, utf16_of, short_at, ascii_at, utf16_at}
-use Rattle.addr_keys.proofs.BodyLemmas.{IsBytes, ascii_takes, ascii_again, utf16_takes, utf16_again}
+use Rattle.addr_keys.proofs.BodyLemmas.{ascii_takes, ascii_again, utf16_takes, utf16_again}
 
 pub IsBytes-drop : (n : ℕ) (bytes : List ℕ) → IsBytes bytes → IsBytes (drop n bytes)
 IsBytes-drop n bytes h i = rw get_or-drop (h (n + i))

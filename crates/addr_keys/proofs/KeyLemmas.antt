@@ -1,20 +1,17 @@
 -- The two laws of reading a key: what is read stands there in a form of it, and a form that stands there is read.
-use Rattle.std.proofs.Common.{◌≡◌, ℕ, ◌+◌, ◌-◌, ◌^◌, ◌<◌, Bool, true, false, cond, eqb, List, [], ◌∷◌, ◌++◌, length, drop, Result, Ok, Err, refl, sym, ap, subst, ◌∙◌, append_assoc, arith, rules, inl, inr}
-use Rattle.std.specs.Prelude.{ℤ, slice_range, FitsSigned, IfOk}
+use Rattle.std.proofs.Common.{◌≡◌, ℕ, ◌+◌, ◌-◌, ◌^◌, ◌<◌, Bool, true, false, cond, eqb, List, [], ◌∷◌, ◌++◌, length, drop, Result, Ok, refl, sym, ap, subst, ◌∙◌, append_assoc, arith, rules, inl, inr}
+use Rattle.std.specs.Prelude.{ℤ, slice_range, FitsSigned}
 use Rattle.std.specs.Int.{w16, w32, to_le_bytes, cast_signed, cast_unsigned}
 use Rattle.std.proofs.lemmas.Bool.{eqb-true}
 use Rattle.std.proofs.lemmas.Int.{of_z-to_z, to_z-of_z, ints}
 use Rattle.std.proofs.lemmas.List.{length-append, length-drop, take_at}
 use Rattle.std.proofs.lemmas.List.Folds.{drop_split}
-use Rattle.addr_reading.specs.Gives.{Gives}
 use Rattle.addr_reading.proofs.StepLaws.{bind_ok, ok_is}
 use Rattle.addr_keys.specs.declared.key.Key.{Key}
 use Rattle.addr_keys.specs.declared.key.Key.TheVariants as keys
 use Rattle.addr_keys.specs.declared.error.KeyErr.{KeyErr}
-use Rattle.addr_keys.specs.declared.error.KeyErr.TheVariants.{NoMemory}
-use Rattle.addr_keys.specs.Format.{utf16_bytes, short, long, IsForm, IsShort, IsWide, KeyAt}
+use Rattle.addr_keys.specs.Format.{IsBytes, utf16_bytes, short, long, IsForm, IsShort, IsWide, KeyAt}
 use Rattle.addr_keys.specs.Faults.{made, byte_at, number_at, short_at, ascii_at, utf16_at, json_at, body_of_kind, key_first, key_read}
-use Rattle.addr_keys.proofs.BodyLemmas.{IsBytes}
 use Rattle.addr_keys.proofs.FieldLemmas.{IsBytes-drop, Takes, Takes-then, number16, number32, byte_takes, number_takes, number_again, short_takes, short_again, ascii_at_takes, ascii_at_again, utf16_at_takes, utf16_at_again}
 
 -- a body of some kind was taken, and kind and body are a form of the key

@@ -8,8 +8,7 @@ use Rattle.std.proofs.lemmas.List.Concat.{flat_map-cons}
 use Rattle.addr_keys.specs.declared.key.Key.{Key}
 use Rattle.addr_keys.specs.declared.key.Key.TheVariants as keys
 use Rattle.addr_keys.specs.Faults.{key_read}
-use Rattle.addr_keys.specs.Format.{key_text, is_ascii, utf16_units, utf16_bytes, short, long, IsForm, IsShort, KeyAt}
-use Rattle.addr_keys.proofs.BodyLemmas.{IsBytes}
+use Rattle.addr_keys.specs.Format.{IsBytes, key_text, is_ascii, utf16_units, utf16_bytes, short, long, IsForm, IsShort, KeyAt}
 use Rattle.addr_keys.proofs.KeyLemmas.{is_read}
 use Rattle.addr_keys.proofs.TextLemmas.{IsAscii-from_test}
 

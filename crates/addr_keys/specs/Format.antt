@@ -1,11 +1,16 @@
 -- Serialized keys: what a form of a key is, which form is written, and where one stands among other bytes. The rule is this
 -- project's profile after the key objects of Unity's ContentCatalogData; integers are little-endian.
 use Rattle.std.specs.Prelude.{◌≡◌, ℕ, ◌<◌, ◌≤◌, ◌^◌, ◌&&◌, ◌||◌, Bool, true, false, List, Some, nat_le, slice_get, ◌∷◌, ◌++◌, ◌⊎◌, length, chars, IsUtf8, nat_lt, FitsSigned, if◌then◌else◌, slice_range}
+use Rattle.std.proofs.Common.{get_or}
 use Rattle.std.specs.List.{flat_map, list_all}
 use Rattle.std.specs.Char.Escape.{encode_utf16}
 use Rattle.std.specs.Int.{w16, w32, to_le_bytes, cast_unsigned}
 use Rattle.addr_keys.specs.declared.key.Key.{Key}
 use Rattle.addr_keys.specs.declared.key.Key.TheVariants.{Text, U16, U32, I32, Hash, TypeId, Json}
+
+-- each number of a list is a byte
+abbrev pub IsBytes : List ℕ → Type 0
+IsBytes bytes = (i : ℕ) → get_or bytes i 0 < 256
 
 -- each byte of the text is below 128
 unfoldable pub is_ascii : List ℕ → Bool

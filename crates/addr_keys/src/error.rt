@@ -6,7 +6,7 @@ use addr_base::NoMemory;
 use std::alloc::AllocError;
 
 /// What is wrong at the first wrong place, or that memory was refused.
-#[derive(Clone, Copy, Debug)]
+#[derive(Clone, Copy, Debug, PartialEq, Eq)]
 pub enum KeyErr {
     /// A byte of the object is missing, also where the start is past the end.
     Short,

@@ -9,6 +9,7 @@
 
 mod error;
 mod key;
+mod laws;
 mod reader;
 mod sizes;
 mod texts;
@@ -16,6 +17,7 @@ mod writer;
 
 pub use error::KeyErr;
 pub use key::Key;
+pub use laws::key_laws;
 pub use reader::read_key;
 pub use sizes::key_size;
 pub use writer::write_key;

@@ -1,18 +1,43 @@
+// Keys and faults on bytes that were worked out by hand, and that the calls succeed with ample memory.
 use super::*;
 use addr_base::Text;
+use std::alloc::Global;
 use std::test::*;
 
+fn is_fault(alloc: Global, bytes: &[u8], want: KeyErr) -> bool {
+    match read_key(alloc, bytes, 0) {
+        Ok(_) => false,
+        Err(fault) => fault == want,
+    }
+}
+
+/// A row for each fault of each field: none is told as want of memory.
 #[test]
-fn first_faults(rt: HostRuntime) {
-    let alloc = rt.alloc();
-    assert!(rt; matches!(read_key(alloc, &[], 0), Err(KeyErr::Short)));
-    assert!(rt; matches!(read_key(alloc, &[9], 0), Err(KeyErr::Kind(9))));
-    let lone = [1, 2, 0, 0, 0, 0, 0xd8];
-    assert!(rt; matches!(read_key(alloc, &lone, 0), Err(KeyErr::Surrogate)));
-    let negative = [0, 255, 255, 255, 255];
-    assert!(rt; matches!(read_key(alloc, &negative, 0), Err(KeyErr::Negative)));
-    let above = [0, 1, 0, 0, 0, 0x80];
-    assert!(rt; matches!(read_key(alloc, &above, 0), Err(KeyErr::NotAscii)));
+fn each_field_has_its_faults(rt: HostRuntime) {
+    for (bytes, want) in [
+        ([].as_slice(), KeyErr::Short),
+        ([9].as_slice(), KeyErr::Kind(9)),
+        // a number, a length, a body and a short body that are cut off
+        ([2, 1].as_slice(), KeyErr::Short),
+        ([1, 2, 0, 0].as_slice(), KeyErr::Short),
+        ([0, 2, 0, 0, 0, 0x41].as_slice(), KeyErr::Short),
+        ([5, 1].as_slice(), KeyErr::Short),
+        // lengths below zero
+        ([0, 255, 255, 255, 255].as_slice(), KeyErr::Negative),
+        ([1, 0, 0, 0, 0x80].as_slice(), KeyErr::Negative),
+        // bytes above 0x7f in a text and in a type id
+        ([0, 1, 0, 0, 0, 0x80].as_slice(), KeyErr::NotAscii),
+        ([6, 1, 0xff].as_slice(), KeyErr::NotAscii),
+        // UTF-16 of odd length, a high surrogate alone, a low one first; the last in an object of a class
+        ([1, 3, 0, 0, 0, 0x41, 0, 0x42].as_slice(), KeyErr::Surrogate),
+        ([1, 2, 0, 0, 0, 0, 0xd8].as_slice(), KeyErr::Surrogate),
+        (
+            [7, 0, 0, 4, 0, 0, 0, 0, 0xdc, 0, 0xd8].as_slice(),
+            KeyErr::Surrogate,
+        ),
+    ] {
+        assert!(rt; is_fault(rt.alloc(), bytes, want), "{want:?}");
+    }
 }
 
 #[test]

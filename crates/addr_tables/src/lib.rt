@@ -9,6 +9,7 @@
 mod decoder;
 mod encoder;
 mod error;
+mod laws;
 mod parts;
 mod rows;
 mod sections;
@@ -18,6 +19,7 @@ mod sizes;
 pub use decoder::decode;
 pub use encoder::encode;
 pub use error::TableErr;
+pub use laws::table_laws;
 pub use rows::{EntryRow, Rows, Tables};
 pub use sizes::are_small;
 
