@@ -4,7 +4,6 @@ use Rattle.addr_base.specs.Faults.{Rose}
 use Rattle.addr_base.specs.declared.files.MemFile.{MemFile}
 use Rattle.addr_wire.specs.Connections.{ConnNow}
 use Rattle.addr_wire.specs.Listeners.{Conns, ListenNow}
-use Rattle.addr_http.specs.Hearing.{Told}
 use Rattle.addr_http.specs.Responses.{Causes, Tells}
 use Rattle.addr_http.specs.declared.answering.Served.{Served}
 use Rattle.addr_http.specs.declared.answering.Served.TheVariants.{Answered, Broken, NoMemory}
@@ -39,9 +38,13 @@ pub record Adds (turns : List Turn) (old new : Conns) : Type 0 where
 abbrev pub lines_of : List Turn → List ℕ
 lines_of turns = flat_map (λ t. served_line t.served) turns
 
+-- where it is told before, it is told after, and the fact holds of the two; else it isn't told after
+abbrev pub Follows : {T : Type 0} → (T → T → Type 0) → Option T → Option T → Type 0
+Follows P old new = MatchOption old (IsNone new) (λ o. IsSomeAnd new (P o))
+
 -- exactly this text was written, where the sink tells it
 abbrev pub Writes : List ℕ → Option (List ℕ) → Option (List ℕ) → Type 0
-Writes text old new = MatchOption old (IsNone new) (λ o. IsSomeAnd new (λ n. n ≡ o ++ text))
+Writes text old new = Follows (λ o n. n ≡ o ++ text) old new
 
 -- what was written, by how serving ended; where the sink failed, or memory was refused, nothing is said of it
 abbrev pub Prints : ℕ → List Turn → Ended → Option (List ℕ) → Option (List ℕ) → Type 0
@@ -57,6 +60,6 @@ pub record Serves (folder : List ℕ) (files : Option (List MemFile)) (connectio
   pub turns : List Turn
   pub bound : result ≡ Done → IfSome new.port (λ told. told ≡ port)
   pub are : AreTurns folder files before now turns
-  pub lists : Told (Adds turns) old.conns new.conns
+  pub lists : Follows (Adds turns) old.conns new.conns
   pub count : result ≡ Done → length turns ≡ connections
   pub prints : Prints port turns result text after

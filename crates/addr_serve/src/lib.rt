@@ -7,7 +7,5 @@
 
 mod lines;
 mod serving;
-#[cfg(test)]
-mod tests;
 
 pub use serving::{Ended, serve};

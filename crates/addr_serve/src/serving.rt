@@ -1,10 +1,9 @@
 // Serving connections one after the other. A connection is finished before its line is written, whatever becomes of it.
-ghost use Rattle.std.specs.Prelude.{◌≡◌, ◌≤◌, ◌<◌, ◌++◌, [], ◌∷◌, Ok, Err, length, IfErr};
-ghost use Rattle.std.specs.Option.{ForSome};
+ghost use Rattle.std.specs.Prelude.{◌≡◌, IfSome};
 ghost use Rattle.addr_base.specs.Faults.{Rose};
-ghost use Rattle.addr_serve.specs.Lines.{memory_line, net_line, port_line, served_line};
-ghost use Rattle.addr_serve.specs.Loops.{IsAhead, ServesAll};
-ghost use Rattle.addr_serve.specs.Serving.{Serves, Writes};
+ghost use Rattle.addr_serve.specs.Lines.{served_line};
+ghost use Rattle.addr_serve.specs.Loops.{IsAhead, LastCause, NetCause, PrintsLast, PrintsLine, PutCause, PutsLast, ServesAll, SinkCause};
+ghost use Rattle.addr_serve.specs.Serving.{Serves};
 
 use crate::lines::{port_line, served_line};
 use addr_base::{Depot, Failed, NoMemory, Sink};
@@ -37,12 +36,10 @@ pub fn serve<D: Depot, L: Listen, K: Sink>(
     out: &mut K,
 ) -> Ended
     requires { IsAhead (L.now listen.old).conns }
-    ensures serves {
-        Serves folder.now (D.files depot.old) connections (D.faults depot.old) (D.faults depot.new) result
-            (L.now listen.old) (L.now listen.new) (K.written out.old) (K.written out.new)
-    }
+    ensures serves { Serves folder.now (D.files depot.old) connections (D.faults depot.old) (D.faults depot.new) result
+        (L.now listen.old) (L.now listen.new) (K.written out.old) (K.written out.new) }
     ensures net { result ≡ Ended.Net → Rose (L.now listen.old).faults (L.now listen.new).faults }
-    ensures sink { result ≡ Ended.Sink → Rose (K.faults out.old) (K.faults out.new) }
+    ensures sink { SinkCause result (K.faults out.old) (K.faults out.new) }
     ensures same { D.files depot.new ≡ D.files depot.old }
 {
     match listen.open(port) {
@@ -61,13 +58,12 @@ fn serve_from<D: Depot, L: Listen, K: Sink>(
     listen: &mut L,
     out: &mut K,
 ) -> Ended
-    requires { IsAhead (L.now listen.old).conns }
-    ensures serves {
-        ServesFrom folder.now (D.files depot.old) connections (D.faults depot.old) (D.faults depot.new) port result
-            (L.now listen.old) (L.now listen.new) (K.written out.old) (K.written out.new)
-    }
-    ensures net { NetCause result (L.now listen.old).faults (L.now listen.new).faults }
-    ensures sink { result ≡ Ended.Sink → Rose (K.faults out.old) (K.faults out.new) }
+    requires ahead { IsAhead (L.now listen.old).conns }
+    requires bound { IfSome (L.now listen.old).port (λ told. told ≡ port) }
+    ensures serves { Serves folder.now (D.files depot.old) connections (D.faults depot.old) (D.faults depot.new) result
+        (L.now listen.old) (L.now listen.new) (K.written out.old) (K.written out.new) }
+    ensures net { result ≡ Ended.Net → Rose (L.now listen.old).faults (L.now listen.new).faults }
+    ensures sink { SinkCause result (K.faults out.old) (K.faults out.new) }
     ensures same { D.files depot.new ≡ D.files depot.old }
 {
     let Ok(line) = port_line(alloc, port) else {
@@ -92,18 +88,18 @@ fn serve_all<D: Depot, L: Listen, K: Sink>(
     out: &mut K,
 ) -> Ended
     requires { IsAhead (L.now listen.old).conns }
-    ensures serves {
-        ServesAll folder.now (D.files depot.old) connections (D.faults depot.old) (D.faults depot.new) result
-            (L.now listen.old) (L.now listen.new) (K.written out.old) (K.written out.new)
-    }
+    ensures serves { ServesAll folder.now (D.files depot.old) connections (D.faults depot.old) (D.faults depot.new) result
+        (L.now listen.old) (L.now listen.new) (K.written out.old) (K.written out.new) }
     ensures net { NetCause result (L.now listen.old).faults (L.now listen.new).faults }
     ensures sink { SinkCause result (K.faults out.old) (K.faults out.new) }
     ensures same { D.files depot.new ≡ D.files depot.old }
 {
-    for _ in 0..connections {
+    for turn in 0..connections {
         match serve_next(alloc, depot, folder, listen, out) {
             Ended::Done => {}
-            ended => return ended,
+            Ended::Memory => return Ended::Memory,
+            Ended::Net => return Ended::Net,
+            Ended::Sink => return Ended::Sink,
         }
     }
     Ended::Done
@@ -118,10 +114,8 @@ fn serve_next<D: Depot, L: Listen, K: Sink>(
     out: &mut K,
 ) -> Ended
     requires { IsAhead (L.now listen.old).conns }
-    ensures serves {
-        ServesAll folder.now (D.files depot.old) 1 (D.faults depot.old) (D.faults depot.new) result
-            (L.now listen.old) (L.now listen.new) (K.written out.old) (K.written out.new)
-    }
+    ensures serves { ServesAll folder.now (D.files depot.old) 1 (D.faults depot.old) (D.faults depot.new) result
+        (L.now listen.old) (L.now listen.new) (K.written out.old) (K.written out.new) }
     ensures net { NetCause result (L.now listen.old).faults (L.now listen.new).faults }
     ensures sink { SinkCause result (K.faults out.old) (K.faults out.new) }
     ensures same { D.files depot.new ≡ D.files depot.old }
@@ -140,7 +134,6 @@ fn serve_next<D: Depot, L: Listen, K: Sink>(
 fn write_line<K: Sink>(alloc: Global, out: &mut K, served: Served) -> Ended
     ensures prints { PrintsLine (served_line served) result (K.written out.old) (K.written out.new) }
     ensures sink { SinkCause result (K.faults out.old) (K.faults out.new) }
-    ensures never { result ≡ Ended.Net → ⊥ }
 {
     match served_line(alloc, served) {
         Ok(line) => match out.put(line.as_bytes()) {
@@ -154,8 +147,7 @@ fn write_line<K: Sink>(alloc: Global, out: &mut K, served: Served) -> Ended
 /// Writes the line of a fault or of want of memory, where it ended so.
 fn last_line<K: Sink>(out: &mut K, ended: Ended) -> Ended
     ensures prints { PrintsLast ended result (K.written out.old) (K.written out.new) }
-    ensures sink { (ended ≡ Ended.Sink → ⊥) → result ≡ Ended.Sink → Rose (K.faults out.old) (K.faults out.new) }
-    ensures later { K.faults out.old ≤ K.faults out.new }
+    ensures sink { LastCause ended result (K.faults out.old) (K.faults out.new) }
 {
     match ended {
         Ended::Done => Ended::Done,
@@ -166,9 +158,8 @@ fn last_line<K: Sink>(out: &mut K, ended: Ended) -> Ended
 }
 
 fn put_last<K: Sink>(out: &mut K, line: &[u8], ended: Ended) -> Ended
-    requires { ended ≡ Ended.Sink → ⊥ }
     ensures prints { PutsLast line.now ended result (K.written out.old) (K.written out.new) }
-    ensures sink { SinkCause result (K.faults out.old) (K.faults out.new) }
+    ensures sink { PutCause ended result (K.faults out.old) (K.faults out.new) }
 {
     match out.put(line) {
         Ok(()) => ended,
