@@ -1,6 +1,9 @@
 -- Connections served one after the other: what each leaves, joined.
-use Rattle.std.proofs.Common.{◌≡◌, ◌<◌, ◌≤◌, ◌+◌, ◌++◌, ◌⊎◌, ℕ, List, [], ◌∷◌, Option, Some, None, Result, Ok, Err, IfSome, IsSomeAnd, IsNone, MatchOption, refl, sym, ◌∙◌, ap, arith, length, map, flat_map, subst, inl, inr, append_assoc}
+use Rattle.std.proofs.Common.{◌≡◌, ◌<◌, ◌≤◌, ◌+◌, ◌-◌, ◌^◌, ◌==◌, Bool, true, false, cond, zero-add, ◌++◌, ◌⊎◌, ℕ, List, [], ◌∷◌, Option, Some, None, Result, Ok, Err, IfSome, IsSomeAnd, IsNone, MatchOption, refl, sym, ◌∙◌, ap, arith, length, map, flat_map, subst, inl, inr, append_assoc}
+use Rattle.std.specs.List.{count_by}
+use Rattle.std.proofs.lemmas.Bool.{cases_lt, eqb-true}
 use Rattle.std.proofs.lemmas.Grind.{flat_map-append}
+use Rattle.std.proofs.lemmas.List.Sums.{sum_by-append}
 use Rattle.std.proofs.lemmas.List.{append-nil, length-append, length-map, map-append}
 use Rattle.addr_base.specs.Faults.{Rose}
 use Rattle.addr_base.specs.declared.files.MemFile.{MemFile}
@@ -9,10 +12,10 @@ use Rattle.addr_wire.specs.Connections.{ConnNow}
 use Rattle.addr_wire.specs.Listeners.{Conns, ListenNow}
 use Rattle.addr_http.specs.Responses.{Causes, Tells}
 use Rattle.addr_http.specs.declared.answering.Served.{Served}
-use Rattle.addr_http.specs.declared.answering.Served.TheVariants.{Answered}
+use Rattle.addr_http.specs.declared.answering.Served.TheVariants.{Answered, Broken, NoMemory}
 use Rattle.addr_serve.specs.Lines.{memory_line, net_line, port_line, served_line}
 use Rattle.addr_serve.specs.Loops.{IsAhead, LastCause, PrintsLast, PrintsLine, PrintsSo, PutCause, PutsLast, ServesAll, SinkCause}
-use Rattle.addr_serve.specs.Serving.{Adds, AreTurns, Follows, IsTurn, Prints, Serves, Turn, Writes, lines_of}
+use Rattle.addr_serve.specs.Serving.{Adds, AreTurns, Follows, IsTurn, is_failed, Prints, Serves, Turn, Writes, lines_of}
 use Rattle.addr_serve.specs.declared.serving.Ended.{Ended}
 use Rattle.addr_serve.specs.declared.serving.Ended.TheVariants.{Done, Memory, Net, Sink}
 
@@ -127,6 +130,41 @@ all_one folder files before now a f s r old mid new x y later tells cause failed
   prints = prints_one (record { accepted = a; finished = f; served = s }) r x y prints;
 }
 
+-- what was answered 500 is at most as much as the depot's count rose by
+answered : (status : ℕ) → (status == 500) ≡ true → (let s : Served = Answered status in s) ≡ Answered 500
+answered status e = ap (λ (n : ℕ). let s : Served = Answered n in s) (eqb-true status 500 e)
+
+rose_by : (t : Turn) (before middle : ℕ) → before ≤ middle → (t.served ≡ Answered 500 → Rose before middle) → (v : Bool) → is_failed t.served ≡ v → (before + cond v 1 0 ≤ middle) ⊎ (2 ^ 64 - 1 ≤ middle)
+rose_by t before middle later rose false e = inl (omega (arith, later))
+rose_by t before middle later rose true e = at_rise (rose (is_500 t.served e))
+  where
+    is_500 : (s : Served) → is_failed s ≡ true → s ≡ Answered 500
+    is_500 (Answered status) h = answered status h
+    is_500 Broken h = absurd (cc)
+    is_500 NoMemory h = absurd (cc)
+
+    at_rise : Rose before middle → (before + 1 ≤ middle) ⊎ (2 ^ 64 - 1 ≤ middle)
+    at_rise r = elim (cases_lt before middle) [ inl less ↦ inl (omega (arith, less)) | inr more ↦ inr (omega (arith, r, more)) ]
+
+count_cons : (p : Turn → Bool) (t : Turn) (turns : List Turn) → count_by p (t ∷ turns) ≡ cond (p t) 1 0 + count_by p turns
+count_cons p t turns = sum_by-append (λ (y : Turn). cond (p y) 1 0) (t ∷ []) turns ∙ ap (λ (n : ℕ). n + count_by p turns) (zero-add _)
+
+few_failed : (folder : List ℕ) (files : Option (List MemFile)) (before now : ℕ) (turns : List Turn) → AreTurns folder files before now turns → (before ≤ now) × ((before + count_by (λ t. is_failed t.served) turns ≤ now) ⊎ (2 ^ 64 - 1 ≤ now))
+few_failed folder files before now [] a = (omega (arith, a), inl (omega (arith, a)))
+few_failed folder files before now (t ∷ turns) a =
+    let later = few_failed folder files a.0 now turns a.2 in
+    let first = rose_by t before a.0 a.1.later a.1.failed (is_failed t.served) refl in
+    let count : count_by (λ t. is_failed t.served) (t ∷ turns) ≡ cond (is_failed t.served) 1 0 + count_by (λ t. is_failed t.served) turns = count_cons (λ t. is_failed t.served) t turns in (
+      omega (arith, a.1.later, later.0),
+      (elim later.1 as (λ _. (before + count_by (λ t. is_failed t.served) (t ∷ turns) ≤ now) ⊎ (2 ^ 64 - 1 ≤ now)) [
+        | inr top ↦ inr top
+        | inl some ↦ elim first as (λ _. (before + count_by (λ t. is_failed t.served) (t ∷ turns) ≤ now) ⊎ (2 ^ 64 - 1 ≤ now)) [
+          | inl x ↦ inl (omega (arith, x, some, count))
+          | inr top ↦ inr (omega (arith, top, later.0))
+        ]
+      ]),
+    )
+
 done_of : (r result : Ended) (c d : Option (List ℕ)) → PrintsLast r result c d → result ≡ Done → r ≡ Done
 done_of Done result c d p e = refl
 done_of Net result c d p e = elim p as (λ _. Net ≡ Done) [ inl x ↦ absurd (let k : Net ≡ Done = sym x.0 ∙ e in cc) | inr x ↦ absurd (let k : Sink ≡ Done = sym x ∙ e in cc) ]
@@ -158,6 +196,7 @@ serves_from folder files n before now port r result old new a b c d bound w x l 
   bound = λ e. subst (λ (p : Option ℕ). IfSome p (λ told. told ≡ port)) (sym x.port) bound;
   are = x.are;
   lists = x.lists;
+  few = (few_failed folder files before now x.turns x.are).1;
   count = λ e. x.count (done_of r result c d l e);
   prints = prints_of port x.turns r result a b c d w x.prints l;
 }
@@ -171,6 +210,7 @@ serves_none folder files n before result old new a d e stopped p = record {
   bound = λ x. absurd (stopped x);
   are = refl;
   lists = same_follows (Adds []) old.conns new.conns e adds_none;
+  few = inl (omega arith);
   count = λ x. absurd (stopped x);
   prints = p;
 }
@@ -202,6 +242,13 @@ serves_closed folder files n before result old new a d e l = elim l as (λ _. Se
     other : Sink ≡ Done → ⊥
     other e = cc
 
+-- the sink failed at the line `serving`
+pub serves_broken : (folder : List ℕ) (files : Option (List MemFile)) (n before : ℕ) (old : ListenNow) (a d : Option (List ℕ)) → Serves folder files n before before Sink old old a d
+serves_broken folder files n before old a d = serves_none folder files n before Sink old old a d refl clash tt
+  where
+    clash : Sink ≡ Done → ⊥
+    clash e = cc
+
 -- from where the listener was opened
 pub serves_opened : (folder : List ℕ) (files : Option (List MemFile)) (n before now : ℕ) (result : Ended) (old mid new : ListenNow) (a d : Option (List ℕ)) → mid.conns ≡ old.conns → Serves folder files n before now result mid new a d → Serves folder files n before now result old new a d
 serves_opened folder files n before now result old mid new a d e x = record {
@@ -210,6 +257,7 @@ serves_opened folder files n before now result old mid new a d e x = record {
   bound = x.bound;
   are = x.are;
   lists = subst (λ (c : Option Conns). Follows (Adds x.turns) c new.conns) e x.lists;
+  few = x.few;
   count = x.count;
   prints = x.prints;
 }

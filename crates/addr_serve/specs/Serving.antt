@@ -1,5 +1,5 @@
 -- What serving connections, one after the other, leaves of the listener, the depot and the sink.
-use Rattle.std.specs.Prelude.{ℕ, ◌≡◌, ◌≤◌, ◌+◌, ◌-◌, ◌^◌, List, [], ◌∷◌, ◌++◌, length, map, flat_map, count_by, Bool, true, false, Option, Some, IfSome, MatchOption, IsNone, IsSomeAnd, ◌⊎◌}
+use Rattle.std.specs.Prelude.{ℕ, ◌≡◌, ◌≤◌, ◌+◌, ◌-◌, ◌^◌, ◌==◌, List, [], ◌∷◌, ◌++◌, length, map, flat_map, count_by, Bool, true, false, Option, Some, IfSome, MatchOption, IsNone, IsSomeAnd, ◌⊎◌}
 use Rattle.addr_base.specs.Faults.{Rose}
 use Rattle.addr_base.specs.declared.files.MemFile.{MemFile}
 use Rattle.addr_wire.specs.Connections.{ConnNow}
@@ -30,6 +30,12 @@ AreTurns folder files before now [] = now ≡ before
 AreTurns folder files before now (turn ∷ turns) =
     (middle : ℕ) × IsTurn folder files before middle turn × AreTurns folder files middle now turns
 
+-- whether a connection was answered 500
+abbrev pub is_failed : Served → Bool
+is_failed (Answered status) = status == 500
+is_failed Broken = false
+is_failed NoMemory = false
+
 -- the connections were accepted, and finished, in this order
 pub record Adds (turns : List Turn) (old new : Conns) : Type 0 where
   pub accepted : new.accepted ≡ old.accepted ++ map (λ t. t.accepted) turns
@@ -54,12 +60,14 @@ Prints port turns Net old new =
 Prints port turns Memory old new = Unit {0}
 Prints port turns Sink old new = Unit {0}
 
--- what was served: exactly the asked number of connections where it is done
+-- what was served: exactly the asked number of connections where it is done; at most as many of them were answered 500 as
+-- the depot's count rose by, unless it stands at its greatest value
 pub record Serves (folder : List ℕ) (files : Option (List MemFile)) (connections before now : ℕ) (result : Ended) (old new : ListenNow) (text after : Option (List ℕ)) : Type 0 where
   pub port : ℕ
   pub turns : List Turn
   pub bound : result ≡ Done → IfSome new.port (λ told. told ≡ port)
   pub are : AreTurns folder files before now turns
   pub lists : Follows (Adds turns) old.conns new.conns
+  pub few : (before + count_by (λ t. is_failed t.served) turns ≤ now) ⊎ (2 ^ 64 - 1 ≤ now)
   pub count : result ≡ Done → length turns ≡ connections
   pub prints : Prints port turns result text after

@@ -7,5 +7,7 @@
 
 mod lines;
 mod serving;
+#[cfg(test)]
+mod tests;
 
 pub use serving::{Ended, serve};
