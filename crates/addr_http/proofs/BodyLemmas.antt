@@ -1,16 +1,16 @@
 -- What the bytes of a body decide, and what of them was poured.
-use Rattle.std.proofs.Common.{◌≡◌, ◌<◌, ◌≤◌, ◌+◌, ◌-◌, ◌++◌, ◌⊎◌, ℕ, List, [], Bool, true, false, Option, Some, None, Result, Ok, Err, IfSome, IsSomeAnd, refl, sym, ◌∙◌, ap, arith, length, take, nat_lt, nat_le, min, subst, inl, inr}
+use Rattle.std.proofs.Common.{◌≡◌, ◌<◌, ◌≤◌, ◌+◌, ◌-◌, ◌++◌, ◌⊎◌, ℕ, List, [], Bool, true, false, Option, Some, None, Result, Ok, Err, refl, sym, ◌∙◌, ap, arith, length, take, nat_lt, nat_le, subst, inl, inr}
 use Rattle.std.proofs.lemmas.Bool.Decides.{nat_tests}
-use Rattle.std.proofs.lemmas.List.{append-nil, length-append, length-take, length-take-le, take_all}
+use Rattle.std.proofs.lemmas.List.{length-append, length-take, length-take-le, take_all}
 use Rattle.addr_base.specs.Faults.{Rose}
 use Rattle.addr_base.specs.declared.memory.Failed.{Failed as FailedType}
 use Rattle.addr_wire.specs.Talks.{Talk}
 use Rattle.addr_http.specs.Bodies.{Bodies, Decides, Takes}
-use Rattle.addr_http.specs.Collecting.{CollectedOf, Collects, EndedBy, Gave, IsOver}
-use Rattle.addr_http.specs.Conversations.{IsGot, Serves, Stops}
+use Rattle.addr_http.specs.Collecting.{CollectedOf, Collects, Gave, IsOver}
+use Rattle.addr_http.specs.Conversations.{Serves, Stops}
 use Rattle.addr_http.specs.Hearing.{Told}
 use Rattle.addr_http.specs.Pours.{Pours}
-use Rattle.addr_http.specs.Received.{End, Got, received_body, short, open_end}
+use Rattle.addr_http.specs.Received.{Got}
 use Rattle.addr_http.specs.Received.End.{ended, failed, neither}
 use Rattle.addr_http.specs.Received.Got.{Given, TooLong as Longer, Fault, BadAnswer}
 use Rattle.addr_http.specs.declared.collecting.Collected.{Collected}
@@ -19,7 +19,7 @@ use Rattle.addr_http.specs.declared.headed.Said.{Said}
 use Rattle.addr_http.specs.declared.headed.Said.TheVariants.{Open, Sized, Unreadable as BadLength}
 use Rattle.addr_http.specs.declared.outcome.Outcome.{Outcome}
 use Rattle.addr_http.specs.declared.outcome.Outcome.TheVariants.{Whole, TooLong, Unreadable, NoMemory}
-use Rattle.addr_http.proofs.CollectingLemmas.{gave_none, pours_none, pours_on, pours_same, take_both}
+use Rattle.addr_http.proofs.CollectingLemmas.{gave_none, pours_none, pours_on, take_both}
 
 -- a first part that was poured, and the pieces behind it
 case_both : (total room : ℕ) (first gave poured : List ℕ) (r : Result Collected FailedType)

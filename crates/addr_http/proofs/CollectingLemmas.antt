@@ -1,16 +1,13 @@
 -- Pieces of a body, one after the other.
-use Rattle.std.proofs.Common.{◌≡◌, ◌<◌, ◌≤◌, ◌+◌, ◌-◌, ◌⊎◌, ℕ, List, [], ◌∷◌, ◌++◌, zero, suc, Bool, true, false, Option, Some, None, Result, Ok, Err, IfSome, IsSomeAnd, IsNone, MatchOption, refl, sym, ◌∙◌, ap, arith, length, take, min, subst, append_assoc, nat_lt, ◌==◌, ◌&&◌, ◌||◌}
+use Rattle.std.proofs.Common.{◌≡◌, ◌<◌, ◌≤◌, ◌+◌, ◌-◌, ℕ, List, [], ◌∷◌, ◌++◌, zero, suc, Bool, true, false, Option, Some, None, Result, Ok, Err, IsNone, MatchOption, refl, sym, ◌∙◌, ap, arith, length, take, subst, append_assoc, nat_lt, ◌==◌, ◌&&◌, ◌||◌}
 use Rattle.std.proofs.lemmas.Bool.Decides.{nat_tests}
-use Rattle.std.proofs.lemmas.List.{append-nil, length-take, length-take-le, length-append}
-use Rattle.std.proofs.Math.Seq.{take-append-add}
+use Rattle.std.proofs.lemmas.List.{append-nil, length-take, length-append}
 use Rattle.addr_base.specs.declared.memory.Failed.{Failed}
 use Rattle.addr_wire.specs.Talks.{Talk, heard}
-use Rattle.addr_http.specs.Collecting.{Collects, Gave, IsOver, PieceOf, Receives}
+use Rattle.addr_http.specs.Collecting.{Collects, Gave, IsOver, Receives}
 use Rattle.addr_http.specs.Hearing.{Told}
 use Rattle.addr_http.specs.Pours.{Pours}
-use Rattle.addr_http.specs.declared.collecting.Collected.{Collected}
 use Rattle.addr_http.specs.declared.collecting.Collected.TheVariants.{Enough, Ended, NoMemory}
-use Rattle.addr_http.specs.declared.collecting.Piece.{Piece}
 use Rattle.addr_http.specs.declared.collecting.Piece.TheVariants.{Came, Over, Refused}
 
 -- what a receive says, where it is told

@@ -1,19 +1,18 @@
 -- What a front and a body decide together, and the request before them.
-use Rattle.std.proofs.Common.{◌≡◌, ◌<◌, ◌≤◌, ◌+◌, ◌-◌, ◌++◌, ◌⊎◌, ℕ, List, [], Bool, true, false, Option, Some, None, Result, Ok, Err, IfSome, IsSomeAnd, IsNone, MatchOption, refl, sym, ◌∙◌, ap, arith, rules, length, take, drop, subst, inl, inr, append_assoc}
-use Rattle.std.proofs.lemmas.List.{append-nil, drop-append-le, drop-take, length-take-le}
+use Rattle.std.proofs.Common.{◌≡◌, ◌≤◌, ◌+◌, ◌-◌, ◌++◌, ◌⊎◌, ℕ, List, [], Option, Some, None, Result, Ok, Err, IsSomeAnd, IsNone, MatchOption, refl, sym, ◌∙◌, ap, arith, rules, length, take, drop, subst, inl, inr, append_assoc}
+use Rattle.std.proofs.lemmas.List.{drop-append-le, drop-take, length-take-le}
 use Rattle.addr_base.specs.Faults.{Rose}
-use Rattle.addr_base.specs.Streams.{Appends}
 use Rattle.addr_base.specs.declared.memory.Failed.{Failed as FailedType}
-use Rattle.addr_wire.specs.Talks.{ConnectNow, Says, Talk, silence}
-use Rattle.httparse.specs.Grammar.{ResponseHead, print_response, ReadsResponse}
-use Rattle.addr_http.specs.Answers.{IsAnswer, headed_of}
+use Rattle.addr_wire.specs.Talks.{Says, Talk, silence}
+use Rattle.httparse.specs.Grammar.{ResponseHead, print_response}
+use Rattle.addr_http.specs.Answers.{IsAnswer}
 use Rattle.addr_http.specs.Bodies.{Bodies, Decides}
-use Rattle.addr_http.specs.Conversations.{Asked, Asks, IsCut, Gets, GetsFrom, IsGot, IsSilent, Serves, Settles, Sizes, Stops}
-use Rattle.addr_http.specs.Fronts.{Fronts, HasFront}
+use Rattle.addr_http.specs.Conversations.{Asked, Asks, Gets, GetsFrom, IsGot, IsSilent, Serves, Settles, Sizes}
+use Rattle.addr_http.specs.Fronts.{Fronts}
 use Rattle.addr_http.specs.Heads.{room}
 use Rattle.addr_http.specs.Hearing.{Told}
-use Rattle.addr_http.specs.Received.{End, Got, HasNoAnswer, NeverAnswers, Received, received_body, received_head}
-use Rattle.addr_http.specs.Received.End.{ended, failed, neither}
+use Rattle.addr_http.specs.Received.{Got, received_body, received_head}
+use Rattle.addr_http.specs.Received.End.{failed, neither}
 use Rattle.addr_http.specs.Received.Got.{Fault, BadAnswer}
 use Rattle.addr_http.specs.declared.headed.Said.{Said}
 use Rattle.addr_http.specs.declared.headed.Headed.{Headed}

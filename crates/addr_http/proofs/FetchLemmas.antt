@@ -1,18 +1,18 @@
 -- From a conversation to the answer of a fetch, and its count of faults.
-use Rattle.std.proofs.Common.{◌≡◌, ◌<◌, ◌≤◌, ◌+◌, ◌⊎◌, ℕ, List, [], Option, Some, None, Result, Ok, Err, refl, sym, ◌∙◌, ap, arith, rules, length, subst}
-use Rattle.addr_base.specs.Faults.{Rose, one_more}
+use Rattle.std.proofs.Common.{◌≡◌, ℕ, List, [], Option, Some, None, Result, Ok, Err, refl, sym, ◌∙◌, ap, arith, subst}
+use Rattle.addr_base.specs.Faults.{Rose}
 use Rattle.addr_base.specs.declared.memory.Failed.{Failed as FailedType}
 use Rattle.addr_wire.specs.Counts.{Counts}
 use Rattle.addr_wire.specs.Talks.{ConnectNow}
-use Rattle.addr_http.specs.Asking.{AskedAt, CountsAt}
+use Rattle.addr_http.specs.Asking.{AskedAt}
 use Rattle.addr_http.specs.Conversations.{Asks, Serves, Sizes}
-use Rattle.addr_http.specs.Fetching.{AnsweredBy, AnswersAt, CountsBy, Fetches, HttpNow, IfFault, IsFault, SizesOf, http_count, sum_of}
+use Rattle.addr_http.specs.Fetching.{AnsweredBy, CountsBy, Fetches, HttpNow, IfFault, SizesOf, sum_of}
 use Rattle.addr_http.specs.Pours.{Pours}
 use Rattle.addr_http.specs.Targets.{Address, request_text}
 use Rattle.addr_http.specs.declared.outcome.Outcome.{Outcome}
 use Rattle.addr_http.specs.declared.outcome.Outcome.TheVariants.{Whole as Got, Missing as NotThere, Refused as OtherStatus, TooLong as Longer, Unreadable, NoMemory as NoRoom}
 use Rattle.addr_fetch.specs.declared.fetch.Poured.{Poured}
-use Rattle.addr_fetch.specs.declared.fetch.Poured.TheVariants.{Whole, Missing, Refused, TooLong, Fault, NoMemory}
+use Rattle.addr_fetch.specs.declared.fetch.Poured.TheVariants.{Missing, Fault}
 use Rattle.addr_http.proofs.CollectingLemmas.{pours_none}
 
 sizes_of : (limit : ℕ) (r : Result Outcome FailedType) (answer : Poured) (poured : List ℕ) (own now : ℕ) → AnsweredBy r answer own now → Sizes limit r poured → SizesOf limit answer poured

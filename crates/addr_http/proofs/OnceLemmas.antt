@@ -1,13 +1,13 @@
 -- A request has one response, and what a connector gave has one answer.
-use Rattle.std.proofs.Common.{◌≡◌, ◌≢◌, ℕ, List, [], Bool, true, false, Option, Some, None, refl, ap, sym, ◌∙◌, inl, inr, take, drop, length, subst}
+use Rattle.std.proofs.Common.{◌≡◌, ℕ, List, [], Bool, true, false, Option, Some, refl, ap, sym, ◌∙◌, inl, inr, take, drop, length}
 use Rattle.httparse.proofs.GrammarLemmas.{request_unique, response_unique}
 use Rattle.httparse.specs.Grammar.{RequestHead, ResponseHead, print_response}
 use Rattle.addr_base.specs.declared.files.MemFile.{MemFile}
 use Rattle.addr_http.specs.Answers.{headed_of}
 use Rattle.addr_http.specs.Heads.{heard, room}
-use Rattle.addr_http.specs.Received.{End, Got, HasNoAnswer, NeverAnswers, Received, ReceivedWhole, received_head, told_got}
+use Rattle.addr_http.specs.Received.{End, Got, Received, ReceivedWhole, received_head, told_got}
 use Rattle.addr_http.specs.Received.End.{failed}
-use Rattle.addr_http.specs.Requests.{Asks, AsksAt, IsTaken, Judges, asked_of}
+use Rattle.addr_http.specs.Requests.{Asks, AsksAt, Judges, asked_of}
 use Rattle.addr_http.specs.Responses.{Response, reply_to, file_for}
 use Rattle.addr_http.specs.declared.heads.Heard.{Heard}
 use Rattle.addr_http.specs.declared.heads.Heard.TheVariants.{Head, TooLong, Cut}

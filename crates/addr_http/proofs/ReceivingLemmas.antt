@@ -1,22 +1,21 @@
 -- An answer's head that is received in pieces.
-use Rattle.std.proofs.Common.{◌≡◌, ◌<◌, ◌≤◌, ◌+◌, ◌-◌, ◌==◌, ◌&&◌, ◌||◌, ℕ, zero, suc, List, [], ◌∷◌, ◌++◌, Bool, true, false, Option, Some, None, Result, Ok, Err, IfOk, IfSome, IsSomeAnd, IsNone, MatchOption, refl, sym, ◌∙◌, ap, arith, length, take, drop, subst, nat_lt, take-take, append_assoc, length-append}
+use Rattle.std.proofs.Common.{◌≡◌, ◌<◌, ◌≤◌, ◌+◌, ◌-◌, ◌==◌, ◌&&◌, ◌||◌, ℕ, List, [], ◌++◌, Bool, true, false, Option, Some, None, Result, Ok, Err, IfOk, IsNone, MatchOption, refl, sym, ◌∙◌, ap, arith, length, take, subst, nat_lt, take-take, length-append}
 use Rattle.std.proofs.Math.Seq.{take-append-add}
 use Rattle.std.proofs.lemmas.List.{length-take-le, length-take, take_all, append-nil, nil_from_length}
 use Rattle.std.proofs.lemmas.Bool.Decides.{nat_tests}
 use Rattle.addr_base.specs.declared.memory.Failed.{Failed}
 use Rattle.addr_wire.specs.Talks.{Talk, heard}
-use Rattle.httparse.specs.Grammar.{ResponseHead, print_response, ReadsResponse}
+use Rattle.httparse.specs.Grammar.{ResponseHead, print_response}
 use Rattle.addr_http.specs.Answers.{IsAnswer, LooksAt}
 use Rattle.addr_http.specs.Heads.{room}
 use Rattle.addr_http.specs.Conversations.{IsSilent}
 use Rattle.addr_http.specs.Fronts.{Fronts, HasFront, HearsAt}
 use Rattle.addr_http.specs.Hearing.{Told}
-use Rattle.addr_http.specs.Received.{End, HasNoAnswer, NeverAnswers}
+use Rattle.addr_http.specs.Received.{HasNoAnswer}
 use Rattle.addr_http.specs.Received.End.{ended, failed, neither}
 use Rattle.addr_http.specs.declared.headed.Headed.{Headed}
 use Rattle.addr_http.specs.declared.headed.Looked.TheVariants.{Whole as WholeHead, More, Never}
 use Rattle.addr_http.specs.declared.receiving.Front.TheVariants.{Whole, Unreadable}
-use Rattle.addr_http.specs.declared.receiving.Front.{Front}
 use Rattle.addr_http.proofs.HearingLemmas.{take_seam}
 
 hears_one : (at : ℕ) (buffer into after : List ℕ) (old new : Talk) (r : Result ℕ Failed) → at < length buffer → length into ≡ length buffer - at → IfOk r (λ n. n ≤ length into) → take (at + length into) after ≡ take at buffer ++ into

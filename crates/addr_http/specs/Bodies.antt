@@ -1,5 +1,5 @@
 -- The body of an answer, of which a first part came with the head.
-use Rattle.std.specs.Prelude.{ℕ, ◌≡◌, ◌<◌, ◌≤◌, ◌-◌, Bool, List, ◌++◌, length, take, Option, Some, Result, Ok, Err, ◌⊎◌}
+use Rattle.std.specs.Prelude.{ℕ, ◌≡◌, Bool, List, ◌++◌, Option, Some, Result, Ok, ◌⊎◌}
 use Rattle.addr_wire.specs.Talks.{Talk}
 use Rattle.addr_http.specs.Collecting.{CollectedOf, EndedBy, Gave}
 use Rattle.addr_http.specs.Conversations.{IsGot, Stops}

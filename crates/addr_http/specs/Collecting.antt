@@ -1,5 +1,5 @@
 -- A body is received in pieces, each poured as it comes.
-use Rattle.std.specs.Prelude.{ℕ, ◌≡◌, ◌<◌, ◌≤◌, ◌-◌, Bool, true, List, [], ◌++◌, length, take, Option, Result, Ok, Err}
+use Rattle.std.specs.Prelude.{ℕ, ◌≡◌, ◌<◌, ◌≤◌, ◌-◌, true, List, [], ◌++◌, length, take, Option, Result, Ok, Err}
 use Rattle.addr_wire.specs.Talks.{Talk}
 use Rattle.addr_http.specs.Hearing.{Told}
 use Rattle.addr_http.specs.Pours.{Pours}

@@ -1,20 +1,14 @@
 -- A conversation with a server: the request that was sent, what was received, and what was poured of it.
-use Rattle.std.specs.Prelude.{ℕ, ◌≡◌, ◌<◌, ◌≤◌, ◌-◌, Bool, true, false, List, [], ◌++◌, length, take, Option, Result, Ok, Err, IsErr, ◌⊎◌}
+use Rattle.std.specs.Prelude.{ℕ, ◌≡◌, ◌<◌, ◌≤◌, Bool, true, false, List, [], length, take, Option, Result, Ok, Err, IsErr, ◌⊎◌}
 use Rattle.addr_base.specs.Faults.{Rose}
 use Rattle.addr_wire.specs.Talks.{Talk}
-use Rattle.httparse.specs.Grammar.{ResponseHead, print_response}
-use Rattle.addr_http.specs.Answers.{IsAnswer, headed_of}
-use Rattle.addr_http.specs.Heads.{room}
 use Rattle.addr_http.specs.Hearing.{Told}
 use Rattle.addr_http.specs.Pours.{Pours}
-use Rattle.addr_http.specs.Received.{End, Got, HasNoAnswer, NeverAnswers, Received, received_body}
+use Rattle.addr_http.specs.Received.{End, Got, Received}
 use Rattle.addr_http.specs.Received.End.{ended, failed}
 use Rattle.addr_http.specs.Received.Got.{Given, Missing as NoFile, Refused as OtherStatus, TooLong as Longer, Fault, BadAnswer}
-use Rattle.addr_http.specs.declared.headed.Said.{Said}
 use Rattle.addr_http.specs.declared.outcome.Outcome.{Outcome}
 use Rattle.addr_http.specs.declared.outcome.Outcome.TheVariants.{Whole, Missing, Refused, TooLong, Unreadable, NoMemory}
-use Rattle.addr_http.specs.declared.receiving.Front.{Front}
-use Rattle.addr_http.specs.declared.receiving.Front.TheVariants.{Whole as WholeFront, Unreadable as BadFront}
 
 -- what was got, by how the conversation ended and what was poured; want of memory gets nothing
 abbrev pub IsGot : {E : Type 0} → Result Outcome E → List ℕ → Got → Type 0

@@ -1,5 +1,5 @@
 -- The front of an answer, as it is received into a buffer.
-use Rattle.std.specs.Prelude.{ℕ, ◌≡◌, ◌≤◌, ◌+◌, ◌==◌, ◌||◌, Bool, true, false, List, [], ◌++◌, length, take, Result, Ok, Err}
+use Rattle.std.specs.Prelude.{ℕ, ◌≡◌, ◌≤◌, ◌+◌, ◌==◌, ◌||◌, true, false, List, ◌++◌, length, take, Result, Ok, Err}
 use Rattle.addr_wire.specs.Talks.{Talk}
 use Rattle.httparse.specs.Grammar.{ResponseHead, print_response}
 use Rattle.addr_http.specs.Answers.{IsAnswer, headed_of}

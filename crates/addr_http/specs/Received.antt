@@ -1,5 +1,5 @@
 -- What the bytes of a server mean to a fetch.
-use Rattle.std.specs.Prelude.{ℕ, ◌≡◌, ◌≤◌, ◌+◌, nat_lt, nat_le, Bool, true, false, if◌then◌else◌, List, [], ◌++◌, length, take, drop, Option, Some, None, ◌⊎◌}
+use Rattle.std.specs.Prelude.{ℕ, ◌≡◌, ◌+◌, nat_lt, nat_le, if◌then◌else◌, List, [], ◌++◌, length, take, drop, Option, Some, None, ◌⊎◌}
 use Rattle.httparse.specs.Grammar.{ResponseHead, print_response}
 use Rattle.addr_http.specs.Heads.{room}
 use Rattle.addr_http.specs.Answers.{IsAnswer, headed_of}

@@ -1,4 +1,4 @@
-use Rattle.std.proofs.Common.{◌≡◌, ◌∙◌, arith, take, drop, ◌-◌, ◌+◌}
+use Rattle.std.proofs.Common.{arith, take, drop, ◌-◌, ◌+◌}
 use Rattle.addr_http.proofs.BodyLemmas.{open_failed, open_long, open_whole, refused}
 use Rattle.addr_http.specs.declared.headed.Said.TheVariants.{Open}
 use Rattle.addr_http.proofs.bodies.open_body.Goals as goal

@@ -1,4 +1,4 @@
-use Rattle.std.proofs.Common.{◌≡◌, take, drop, ◌-◌}
+use Rattle.std.proofs.Common.{take, drop, ◌-◌}
 use Rattle.addr_http.proofs.BodyLemmas.{unreadable}
 use Rattle.addr_http.proofs.bodies.pour_body.Goals as goal
 

@@ -1,5 +1,4 @@
-use Rattle.std.proofs.Common.{◌≡◌, ◌∙◌, arith, ap, sym, subst, length, take, drop, ◌-◌, ℕ}
-use Rattle.std.proofs.lemmas.Grind.{common_steps}
+use Rattle.std.proofs.Common.{◌≡◌, arith, length, take, drop, ◌-◌}
 use Rattle.std.proofs.lemmas.List.{length-take, length-drop}
 use Rattle.addr_http.proofs.BodyLemmas.{takes_both, takes_refused}
 use Rattle.addr_http.proofs.bodies.pour_part.Goals as goal

@@ -1,4 +1,4 @@
-use Rattle.std.proofs.Common.{◌≡◌, ◌∙◌, ◌≤◌, arith, take, drop, ◌-◌}
+use Rattle.std.proofs.Common.{arith, take, drop, ◌-◌}
 use Rattle.addr_http.proofs.BodyLemmas.{refused, sized_failed, sized_long, sized_short, sized_whole}
 use Rattle.addr_http.specs.declared.headed.Said.TheVariants.{Sized}
 use Rattle.addr_http.proofs.bodies.sized.Goals as goal

@@ -1,5 +1,5 @@
-use Rattle.std.proofs.Common.{◌≡◌, ◌∙◌, arith, subst, ℕ}
-use Rattle.addr_http.proofs.CollectingLemmas.{SoFar, collects_refused, so_far_more}
+use Rattle.std.proofs.Common.{◌∙◌, arith}
+use Rattle.addr_http.proofs.CollectingLemmas.{collects_refused, so_far_more}
 use Rattle.addr_http.proofs.collecting.collect.Goals as goal
 
 pub pieces-preserved : goal.pieces-preserved

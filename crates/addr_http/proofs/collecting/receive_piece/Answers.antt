@@ -1,7 +1,6 @@
-use Rattle.std.proofs.Common.{◌≡◌, ◌∙◌, arith, refl, take, length}
-use Rattle.std.proofs.lemmas.Grind.{common_steps}
+use Rattle.std.proofs.Common.{arith, refl, take}
 use Rattle.std.proofs.lemmas.List.{length-take-le}
-use Rattle.addr_http.proofs.CollectingLemmas.{gave_some, pours_same}
+use Rattle.addr_http.proofs.CollectingLemmas.{gave_some}
 use Rattle.addr_http.proofs.collecting.receive_piece.Goals as goal
 
 pub returns-in-Ok-pour_front-clause-told : goal.returns-in-Ok-pour_front-clause-told

@@ -1,5 +1,4 @@
-use Rattle.std.proofs.Common.{◌≡◌}
-use Rattle.addr_http.proofs.ConversationLemmas.{asks_nothing, asks_of}
+use Rattle.addr_http.proofs.ConversationLemmas.{asks_of}
 use Rattle.addr_http.proofs.fetching.ask.Goals as goal
 
 pub returns-clause-told : goal.returns-clause-told

@@ -1,5 +1,5 @@
-use Rattle.std.proofs.Common.{◌≡◌, ◌∙◌}
-use Rattle.addr_http.proofs.ConversationLemmas.{asked_not_opened, asked_not_sent, asked_whole}
+use Rattle.std.proofs.Common.{◌∙◌}
+use Rattle.addr_http.proofs.ConversationLemmas.{asked_whole}
 use Rattle.addr_http.proofs.fetching.ask_in.Goals as goal
 
 pub returns-in-Ok-send-clause-told : goal.returns-in-Ok-send-clause-told

@@ -1,4 +1,4 @@
-use Rattle.std.proofs.Common.{◌≡◌, ap, sym, ◌∙◌, rules, arith, refl, List, ℕ}
+use Rattle.std.proofs.Common.{ap, arith, refl}
 use Rattle.addr_http.specs.Received.{received_head}
 use Rattle.addr_http.specs.Received.End.{neither}
 use Rattle.addr_http.specs.declared.headed.Headed.{Headed}

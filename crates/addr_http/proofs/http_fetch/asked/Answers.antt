@@ -1,4 +1,4 @@
-use Rattle.std.proofs.Common.{◌≡◌, ◌∙◌, ap, sym, List, ℕ}
+use Rattle.std.proofs.Common.{◌∙◌, ap, sym, List, ℕ}
 use Rattle.addr_http.specs.Targets.{address_in}
 use Rattle.addr_http.proofs.FetchLemmas.{asked_at}
 use Rattle.addr_http.proofs.http_fetch.asked.Goals as goal

@@ -1,4 +1,4 @@
-use Rattle.std.proofs.Common.{◌≡◌, refl, arith, rules}
+use Rattle.std.proofs.Common.{refl, arith, rules}
 use Rattle.std.proofs.lemmas.Slice.{take-put_mid}
 use Rattle.addr_http.proofs.ReceivingLemmas.{hears_at}
 use Rattle.addr_http.proofs.receiving.receive_at.Goals as goal

@@ -1,6 +1,5 @@
-use Rattle.std.proofs.Common.{◌≡◌, ◌<◌, ◌≤◌, ◌+◌, refl, sym, ◌∙◌, rules, arith, length, take}
-use Rattle.addr_http.specs.Heads.{room}
-use Rattle.addr_http.proofs.ReceivingLemmas.{tells_first, tells_more, tells_whole, tells_never, tells_ended, tells_full, whole_inside}
+use Rattle.std.proofs.Common.{◌≤◌, ◌+◌, refl, ◌∙◌, arith, length}
+use Rattle.addr_http.proofs.ReceivingLemmas.{tells_first, tells_more, tells_whole, tells_never, tells_full, whole_inside}
 use Rattle.addr_http.proofs.receiving.receive_front.Goals as goal
 
 pub reads-init : goal.reads-init

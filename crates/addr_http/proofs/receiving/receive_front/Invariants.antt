@@ -1,4 +1,4 @@
-use Rattle.std.proofs.Common.{length, ◌-◌, ◌≡◌, ◌<◌, ◌≤◌, ◌+◌}
+use Rattle.std.proofs.Common.{length, ◌-◌, ◌≡◌, ◌≤◌}
 use Rattle.addr_http.specs.Heads.{room}
 use Rattle.addr_http.proofs.ReceivingLemmas.{Hears, Tells}
 use Rattle.addr_http.proofs.receiving.receive_front.Given as goal

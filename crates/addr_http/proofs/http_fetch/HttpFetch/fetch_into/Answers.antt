@@ -1,4 +1,4 @@
-use Rattle.std.proofs.Common.{◌≡◌, ap}
+use Rattle.std.proofs.Common.{ap}
 use Rattle.addr_http.specs.Fetching.{HttpNow}
 use Rattle.addr_http.specs.Targets.{address_in}
 use Rattle.addr_http.proofs.FetchLemmas.{counts_by, fetches, fetches_none, not_asked}

@@ -1,0 +1,37 @@
+use Rattle.std.proofs.Common.{◌≡◌, ◌∙◌, ◌+◌, arith}
+use Rattle.addr_serve.proofs.ServeLemmas.{ahead_on, all_join, all_stopped}
+use Rattle.addr_serve.specs.declared.serving.Ended.TheVariants.{Done, Memory, Net, Sink}
+use Rattle.addr_serve.proofs.serving.serve_all.Goals as goal
+
+pub returns-in-Memory-clause-serves : goal.returns-in-Memory-clause-serves
+returns-in-Memory-clause-serves g c =
+    all_stopped c.args.folder.now (g.D.Depot.files c.args.depot.now) (c.loop-turn.turn + 1) c.args.connections (g.D.Depot.faults c.args.depot.now) (g.D.Depot.faults c.serve_next.new.depot) Memory (g.L.Listen.now c.args.listen.now) (g.L.Listen.now c.serve_next.new.listen) (g.K.Sink.written c.args.out.now) (g.K.Sink.written c.serve_next.new.out) stopped
+    (all_join c.args.folder.now (g.D.Depot.files c.args.depot.now) (g.D.Depot.files c.loop-turn.depot) c.loop-turn.turn 1 (g.D.Depot.faults c.args.depot.now) (g.D.Depot.faults c.loop-turn.depot) (g.D.Depot.faults c.serve_next.new.depot) Memory (g.L.Listen.now c.args.listen.now) (g.L.Listen.now c.loop-turn.listen) (g.L.Listen.now c.serve_next.new.listen) (g.K.Sink.written c.args.out.now) (g.K.Sink.written c.loop-turn.out) (g.K.Sink.written c.serve_next.new.out) c.loop-turn.invariant.same c.loop-turn.invariant.so_far c.in-Memory.ensures.serves)
+  where
+    stopped : Memory ≡ Done → ⊥
+    stopped e = cc
+
+pub returns-in-Net-clause-serves : goal.returns-in-Net-clause-serves
+returns-in-Net-clause-serves g c =
+    all_stopped c.args.folder.now (g.D.Depot.files c.args.depot.now) (c.loop-turn.turn + 1) c.args.connections (g.D.Depot.faults c.args.depot.now) (g.D.Depot.faults c.serve_next.new.depot) Net (g.L.Listen.now c.args.listen.now) (g.L.Listen.now c.serve_next.new.listen) (g.K.Sink.written c.args.out.now) (g.K.Sink.written c.serve_next.new.out) stopped
+    (all_join c.args.folder.now (g.D.Depot.files c.args.depot.now) (g.D.Depot.files c.loop-turn.depot) c.loop-turn.turn 1 (g.D.Depot.faults c.args.depot.now) (g.D.Depot.faults c.loop-turn.depot) (g.D.Depot.faults c.serve_next.new.depot) Net (g.L.Listen.now c.args.listen.now) (g.L.Listen.now c.loop-turn.listen) (g.L.Listen.now c.serve_next.new.listen) (g.K.Sink.written c.args.out.now) (g.K.Sink.written c.loop-turn.out) (g.K.Sink.written c.serve_next.new.out) c.loop-turn.invariant.same c.loop-turn.invariant.so_far c.in-Net.ensures.serves)
+  where
+    stopped : Net ≡ Done → ⊥
+    stopped e = cc
+
+pub returns-in-Sink-clause-serves : goal.returns-in-Sink-clause-serves
+returns-in-Sink-clause-serves g c =
+    all_stopped c.args.folder.now (g.D.Depot.files c.args.depot.now) (c.loop-turn.turn + 1) c.args.connections (g.D.Depot.faults c.args.depot.now) (g.D.Depot.faults c.serve_next.new.depot) Sink (g.L.Listen.now c.args.listen.now) (g.L.Listen.now c.serve_next.new.listen) (g.K.Sink.written c.args.out.now) (g.K.Sink.written c.serve_next.new.out) stopped
+    (all_join c.args.folder.now (g.D.Depot.files c.args.depot.now) (g.D.Depot.files c.loop-turn.depot) c.loop-turn.turn 1 (g.D.Depot.faults c.args.depot.now) (g.D.Depot.faults c.loop-turn.depot) (g.D.Depot.faults c.serve_next.new.depot) Sink (g.L.Listen.now c.args.listen.now) (g.L.Listen.now c.loop-turn.listen) (g.L.Listen.now c.serve_next.new.listen) (g.K.Sink.written c.args.out.now) (g.K.Sink.written c.loop-turn.out) (g.K.Sink.written c.serve_next.new.out) c.loop-turn.invariant.same c.loop-turn.invariant.so_far c.in-Sink.ensures.serves)
+  where
+    stopped : Sink ≡ Done → ⊥
+    stopped e = cc
+
+pub loop-turn-preserved : goal.loop-turn-preserved
+loop-turn-preserved g c = record {
+  ahead = ahead_on c.in-Done.ensures.serves.turns (g.L.Listen.now c.loop-turn.listen).conns (g.L.Listen.now c.serve_next.new.listen).conns c.loop-turn.invariant.ahead c.in-Done.ensures.serves.lists;
+  so_far = all_join c.args.folder.now (g.D.Depot.files c.args.depot.now) (g.D.Depot.files c.loop-turn.depot) c.loop-turn.turn 1 (g.D.Depot.faults c.args.depot.now) (g.D.Depot.faults c.loop-turn.depot) (g.D.Depot.faults c.serve_next.new.depot) Done (g.L.Listen.now c.args.listen.now) (g.L.Listen.now c.loop-turn.listen) (g.L.Listen.now c.serve_next.new.listen) (g.K.Sink.written c.args.out.now) (g.K.Sink.written c.loop-turn.out) (g.K.Sink.written c.serve_next.new.out) c.loop-turn.invariant.same c.loop-turn.invariant.so_far c.in-Done.ensures.serves;
+  count = c.in-Done.ensures.net ∙ c.loop-turn.invariant.count;
+  later = omega (arith, c.in-Done.ensures.sink, c.loop-turn.invariant.later);
+  same = c.in-Done.ensures.same ∙ c.loop-turn.invariant.same;
+}
