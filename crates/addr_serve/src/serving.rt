@@ -1,6 +1,7 @@
 // Serving connections one after the other. A connection is finished before its line is written, whatever becomes of it.
 ghost use Rattle.std.specs.Prelude.{◌≡◌, IfSome};
 ghost use Rattle.addr_base.specs.Faults.{Rose};
+ghost use Rattle.addr_base.specs.Files.{SameStore};
 ghost use Rattle.addr_serve.specs.Lines.{served_line};
 ghost use Rattle.addr_serve.specs.Loops.{IsAhead, LastCause, NetCause, PrintsLast, PrintsLine, PutCause, PutsLast, ServesAll, SinkCause};
 ghost use Rattle.addr_serve.specs.Serving.{Serves};
@@ -36,11 +37,11 @@ pub fn serve<D: Depot, L: Listen, K: Sink>(
     out: &mut K,
 ) -> Ended
     requires { IsAhead (L.now listen.old).conns }
-    ensures serves { Serves folder.now (D.files depot.old) connections (D.faults depot.old) (D.faults depot.new) result
-        (L.now listen.old) (L.now listen.new) (K.written out.old) (K.written out.new) }
+    ensures serves { Serves folder.now (D.now depot.old).files connections (D.now depot.old).faults (D.now depot.new).faults result
+        (L.now listen.old) (L.now listen.new) (K.now out.old).written (K.now out.new).written }
     ensures net { result ≡ Ended.Net → Rose (L.now listen.old).faults (L.now listen.new).faults }
-    ensures sink { SinkCause result (K.faults out.old) (K.faults out.new) }
-    ensures same { D.files depot.new ≡ D.files depot.old }
+    ensures sink { SinkCause result (K.now out.old).faults (K.now out.new).faults }
+    ensures same { SameStore (D.now depot.old) (D.now depot.new) }
 {
     match listen.open(port) {
         Ok(bound) => serve_from(alloc, depot, folder, bound, connections, listen, out),
@@ -60,11 +61,11 @@ fn serve_from<D: Depot, L: Listen, K: Sink>(
 ) -> Ended
     requires ahead { IsAhead (L.now listen.old).conns }
     requires bound { IfSome (L.now listen.old).port (λ told. told ≡ port) }
-    ensures serves { Serves folder.now (D.files depot.old) connections (D.faults depot.old) (D.faults depot.new) result
-        (L.now listen.old) (L.now listen.new) (K.written out.old) (K.written out.new) }
+    ensures serves { Serves folder.now (D.now depot.old).files connections (D.now depot.old).faults (D.now depot.new).faults result
+        (L.now listen.old) (L.now listen.new) (K.now out.old).written (K.now out.new).written }
     ensures net { result ≡ Ended.Net → Rose (L.now listen.old).faults (L.now listen.new).faults }
-    ensures sink { SinkCause result (K.faults out.old) (K.faults out.new) }
-    ensures same { D.files depot.new ≡ D.files depot.old }
+    ensures sink { SinkCause result (K.now out.old).faults (K.now out.new).faults }
+    ensures same { SameStore (D.now depot.old) (D.now depot.new) }
 {
     let Ok(line) = port_line(alloc, port) else {
         return last_line(out, Ended::Memory);
@@ -88,11 +89,11 @@ fn serve_all<D: Depot, L: Listen, K: Sink>(
     out: &mut K,
 ) -> Ended
     requires { IsAhead (L.now listen.old).conns }
-    ensures serves { ServesAll folder.now (D.files depot.old) connections (D.faults depot.old) (D.faults depot.new) result
-        (L.now listen.old) (L.now listen.new) (K.written out.old) (K.written out.new) }
+    ensures serves { ServesAll folder.now (D.now depot.old).files connections (D.now depot.old).faults (D.now depot.new).faults result
+        (L.now listen.old) (L.now listen.new) (K.now out.old).written (K.now out.new).written }
     ensures net { NetCause result (L.now listen.old).faults (L.now listen.new).faults }
-    ensures sink { SinkCause result (K.faults out.old) (K.faults out.new) }
-    ensures same { D.files depot.new ≡ D.files depot.old }
+    ensures sink { SinkCause result (K.now out.old).faults (K.now out.new).faults }
+    ensures same { SameStore (D.now depot.old) (D.now depot.new) }
 {
     for turn in 0..connections {
         match serve_next(alloc, depot, folder, listen, out) {
@@ -114,11 +115,11 @@ fn serve_next<D: Depot, L: Listen, K: Sink>(
     out: &mut K,
 ) -> Ended
     requires { IsAhead (L.now listen.old).conns }
-    ensures serves { ServesAll folder.now (D.files depot.old) 1 (D.faults depot.old) (D.faults depot.new) result
-        (L.now listen.old) (L.now listen.new) (K.written out.old) (K.written out.new) }
+    ensures serves { ServesAll folder.now (D.now depot.old).files 1 (D.now depot.old).faults (D.now depot.new).faults result
+        (L.now listen.old) (L.now listen.new) (K.now out.old).written (K.now out.new).written }
     ensures net { NetCause result (L.now listen.old).faults (L.now listen.new).faults }
-    ensures sink { SinkCause result (K.faults out.old) (K.faults out.new) }
-    ensures same { D.files depot.new ≡ D.files depot.old }
+    ensures sink { SinkCause result (K.now out.old).faults (K.now out.new).faults }
+    ensures same { SameStore (D.now depot.old) (D.now depot.new) }
 {
     match listen.accept() {
         Ok(conn) => {
@@ -132,8 +133,8 @@ fn serve_next<D: Depot, L: Listen, K: Sink>(
 }
 
 fn write_line<K: Sink>(alloc: Global, out: &mut K, served: Served) -> Ended
-    ensures prints { PrintsLine (served_line served) result (K.written out.old) (K.written out.new) }
-    ensures sink { SinkCause result (K.faults out.old) (K.faults out.new) }
+    ensures prints { PrintsLine (served_line served) result (K.now out.old).written (K.now out.new).written }
+    ensures sink { SinkCause result (K.now out.old).faults (K.now out.new).faults }
 {
     match served_line(alloc, served) {
         Ok(line) => match out.put(line.as_bytes()) {
@@ -146,8 +147,8 @@ fn write_line<K: Sink>(alloc: Global, out: &mut K, served: Served) -> Ended
 
 /// Writes the line of a fault or of want of memory, where it ended so.
 fn last_line<K: Sink>(out: &mut K, ended: Ended) -> Ended
-    ensures prints { PrintsLast ended result (K.written out.old) (K.written out.new) }
-    ensures sink { LastCause ended result (K.faults out.old) (K.faults out.new) }
+    ensures prints { PrintsLast ended result (K.now out.old).written (K.now out.new).written }
+    ensures sink { LastCause ended result (K.now out.old).faults (K.now out.new).faults }
 {
     match ended {
         Ended::Done => Ended::Done,
@@ -158,8 +159,8 @@ fn last_line<K: Sink>(out: &mut K, ended: Ended) -> Ended
 }
 
 fn put_last<K: Sink>(out: &mut K, line: &[u8], ended: Ended) -> Ended
-    ensures prints { PutsLast line.now ended result (K.written out.old) (K.written out.new) }
-    ensures sink { PutCause ended result (K.faults out.old) (K.faults out.new) }
+    ensures prints { PutsLast line.now ended result (K.now out.old).written (K.now out.new).written }
+    ensures sink { PutCause ended result (K.now out.old).faults (K.now out.new).faults }
 {
     match out.put(line) {
         Ok(()) => ended,

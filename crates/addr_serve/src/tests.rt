@@ -1,6 +1,6 @@
 // What no clause says: the lines as they are printed, and that serving succeeds where memory is ample.
 use crate::{Ended, serve};
-use addr_base::{Items, MemConn as Out, MemDepot, MemFile, Text};
+use addr_base::{Items, MemDepot, MemFile, MemSink as Out, Text};
 use addr_wire::{MemConn, MemListen};
 use std::alloc::Global;
 use std::test::Fail;
@@ -36,7 +36,7 @@ fn serves_two_connections(rt: HostRuntime) -> Result<(), Fail> {
     ] {
         let mut depot = one_file(rt.alloc())?;
         let mut listen = two_peers(rt.alloc(), &[fails])?;
-        let mut out = Out::new(rt.alloc(), Vec::new(rt.alloc()), Vec::new(rt.alloc()));
+        let mut out = Out::new(rt.alloc(), Vec::new(rt.alloc()));
         assert_eq!(rt;
             serve(
                 rt.alloc(),

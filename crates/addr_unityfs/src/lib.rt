@@ -17,6 +17,7 @@ mod fields;
 mod flags;
 mod header;
 mod laws;
+mod pouring;
 mod put;
 mod reader;
 mod sections;
