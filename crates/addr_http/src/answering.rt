@@ -113,7 +113,8 @@ fn reply<D: Depot>(
     folder: &str,
     asked: &Asked,
 ) -> Result<Reply, NoMemory>
-    ensures told { IfOk result (Replies folder.now (D.files depot.old) (D.faults depot.old) (D.faults depot.new) asked.now) }
+    ensures told { IfOk result
+        (Replies folder.now (D.files depot.old) (D.faults depot.old) (D.faults depot.new) asked.now) }
     ensures same { D.files depot.new ≡ D.files depot.old }
     ensures later { D.faults depot.old ≤ D.faults depot.new }
 {
