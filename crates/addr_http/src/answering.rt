@@ -114,7 +114,8 @@ fn reply<D: Depot>(
     folder: &str,
     asked: &Asked,
 ) -> Result<Reply, NoMemory>
-    ensures told { IfOk result (Replies folder.now (D.now depot.old).files (D.now depot.old).faults (D.now depot.new).faults asked.now) }
+    ensures told { IfOk result
+        (Replies folder.now (D.now depot.old).files (D.now depot.old).faults (D.now depot.new).faults asked.now) }
     ensures same { SameStore (D.now depot.old) (D.now depot.new) }
     ensures later { (D.now depot.old).faults ≤ (D.now depot.new).faults }
 {

@@ -1,8 +1,9 @@
 //! The content server and the fetcher: what a request is answered, and what the bytes of a server mean
 //! (docs/formats/http.md).
 //!
-//! Promise: `answer` writes exactly the one response to the request that the connection gives (`specs/Responses.antt`), and
-//! reads no more than it needs. Units: sizes in bytes. Left out: sockets (`addr_net`).
+//! Promise: `answer` writes exactly the one response to the request that the connection gives (`specs/Responses.antt`),
+//! and reads no more than it needs; `HttpFetch` asks once, and answers what was received (`specs/Received.antt`).
+//! Units: sizes in bytes. Left out: sockets (`addr_net`).
 #![tactic(auto)]
 
 mod answering;

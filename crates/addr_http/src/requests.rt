@@ -83,7 +83,9 @@ pub fn place_of(text: &[u8], mark: u8) -> Option<usize>
 
 pub fn behind<'a>(text: &'a [u8], word: &[u8]) -> Option<&'a [u8]>
     requires ascii { IsTrue (is_ascii_word word.now) }
-    ensures value { MatchOption result (bytes_eq (take (length word.now) text.now) word.now ≡ false) (λ rest. (bytes_eq (take (length word.now) text.now) word.now ≡ true) × (rest.now ≡ drop (length word.now) text.now)) }
+    ensures value { MatchOption result (bytes_eq (take (length word.now) text.now) word.now ≡ false)
+        (λ rest. (bytes_eq (take (length word.now) text.now) word.now ≡ true)
+        × (rest.now ≡ drop (length word.now) text.now)) }
     ensures text { IsUtf8 text.now → IfSome result (λ rest. IsUtf8 rest.now) }
 {
     match after_word(text, word) {
@@ -182,7 +184,8 @@ fn asked_of(
 ) -> Result<Asked, NoMemory>
     requires within { IsRequestWithin head.now fields.now parts }
     requires text { IsUtf8 (span_bytes head.now parts.path) }
-    ensures { IfOk result (λ asked. asked ≡ asked_by (span_bytes head.now parts.method) (span_bytes head.now parts.path) parts.version (count_by (λ s. is_host (span_bytes head.now s.name)) (take parts.headers fields.now))) }
+    ensures { IfOk result (λ asked. asked ≡ asked_by (span_bytes head.now parts.method) (span_bytes head.now parts.path)
+        parts.version (count_by (λ s. is_host (span_bytes head.now s.name)) (take parts.headers fields.now))) }
 {
     let count = hosts(head, &fields[..parts.headers]);
     asked_by(

@@ -60,7 +60,9 @@ fn is_address(host: &[u8], path: &[u8]) -> bool
 }
 
 fn target_with<'a>(host: &'a [u8], path: &'a [u8], port: Option<u16>) -> Option<Target<'a>>
-    ensures value { MatchOption result (address_with host.now path.now port ≡ None) (λ t. address_with host.now path.now port ≡ Some (record { host = t.host.now; port = t.port; path = t.path.now })) }
+    ensures value { MatchOption result (address_with host.now path.now port ≡ None)
+        (λ t. address_with host.now path.now port
+        ≡ Some (record { host = t.host.now; port = t.port; path = t.path.now })) }
     ensures text { IfSome result (λ t. IsUtf8 t.host.now × IsUtf8 t.path.now) }
 {
     match port {
@@ -76,7 +78,9 @@ fn target_with<'a>(host: &'a [u8], path: &'a [u8], port: Option<u16>) -> Option<
 }
 
 fn target_of<'a>(authority: &'a [u8], path: &'a [u8]) -> Option<Target<'a>>
-    ensures value { MatchOption result (address_of authority.now path.now ≡ None) (λ t. address_of authority.now path.now ≡ Some (record { host = t.host.now; port = t.port; path = t.path.now })) }
+    ensures value { MatchOption result (address_of authority.now path.now ≡ None)
+        (λ t. address_of authority.now path.now
+        ≡ Some (record { host = t.host.now; port = t.port; path = t.path.now })) }
     ensures text { IfSome result (λ t. IsUtf8 t.host.now × IsUtf8 t.path.now) }
 {
     match place_of(authority, b':') {
@@ -86,7 +90,9 @@ fn target_of<'a>(authority: &'a [u8], path: &'a [u8]) -> Option<Target<'a>>
 }
 
 fn target_at(rest: &[u8]) -> Option<Target<'_>>
-    ensures value { MatchOption result (address_at (position (λ b. b == 47) rest.now) rest.now ≡ None) (λ t. address_at (position (λ b. b == 47) rest.now) rest.now ≡ Some (record { host = t.host.now; port = t.port; path = t.path.now })) }
+    ensures value { MatchOption result (address_at (position (λ b. b == 47) rest.now) rest.now ≡ None)
+        (λ t. address_at (position (λ b. b == 47) rest.now) rest.now
+        ≡ Some (record { host = t.host.now; port = t.port; path = t.path.now })) }
     ensures text { IfSome result (λ t. IsUtf8 t.host.now × IsUtf8 t.path.now) }
 {
     match place_of(rest, b'/') {
@@ -97,7 +103,9 @@ fn target_at(rest: &[u8]) -> Option<Target<'_>>
 
 /// Where the id leads, if it is one over HTTP.
 pub fn target_in(id: &[u8]) -> Option<Target<'_>>
-    ensures value { MatchOption result (address_in id.now ≡ None) (λ t. address_in id.now ≡ Some (record { host = t.host.now; port = t.port; path = t.path.now })) }
+    ensures value { MatchOption result (address_in id.now ≡ None)
+        (λ t. address_in id.now
+        ≡ Some (record { host = t.host.now; port = t.port; path = t.path.now })) }
     ensures text { IfSome result (λ t. IsUtf8 t.host.now × IsUtf8 t.path.now) }
 {
     match behind(id, b"http://") {
@@ -118,7 +126,8 @@ pub fn as_text(bytes: &[u8]) -> &str
 }
 
 pub fn request_with(alloc: Global, host: &str, port: u16, path: &str) -> Result<String, NoMemory>
-    ensures { IfOk result (λ text. string_bytes text ≡ request_text (record { host = host.now; port = port; path = path.now })) }
+    ensures { IfOk result (λ text. string_bytes text
+        ≡ request_text (record { host = host.now; port = port; path = path.now })) }
 {
     Ok(format!(in alloc;
         "GET {path} HTTP/1.1\r\nHost: {host}:{port}\r\nConnection: close\r\n\r\n"

@@ -35,7 +35,13 @@ impl<S: Read + Write + OpenStream> TcpConn<S> {
 }
 
 impl<S: Read + Write + OpenStream> Conn for TcpConn<S> {
-    ghost now = { λ conn. record { left = None; last = conn.last; source_faults = conn.source_faults; written = None; sink_faults = conn.sink_faults } };
+    ghost now = { λ conn. record {
+      left = None;
+      last = conn.last;
+      source_faults = conn.source_faults;
+      written = None;
+      sink_faults = conn.sink_faults;
+    } };
 
     fn read(&mut self, into: &mut [u8]) -> Result<usize, Failed> {
         match read_once(&mut self.stream, into) {

@@ -30,7 +30,13 @@ impl MemConn {
     /// A connection whose peer sends these bytes. The calls whose numbers are given fail; calls are numbered from 1 on
     /// over all methods. It takes no memory before the first put.
     pub fn new(alloc: Global, input: Vec<u8>, fails: Vec<u32>) -> MemConn
-        ensures now { conn_now result ≡ record { left = Some input.items; last = 0; source_faults = 0; written = Some []; sink_faults = 0 } }
+        ensures now { conn_now result ≡ record {
+          left = Some input.items;
+          last = 0;
+          source_faults = 0;
+          written = Some [];
+          sink_faults = 0;
+        } }
         ensures plan { IsFresh fails.items (conn_plan result) }
     {
         MemConn {
@@ -97,7 +103,8 @@ impl Conn for MemConn {
     fn read(&mut self, into: &mut [u8]) -> Result<usize, Failed>
         ensures within { IfOk result (λ n. n ≤ length into.new) }
         ensures reads { Reads (conn_now self.old) result into.new (conn_now self.new) }
-        ensures brings { IfOk result (λ n. n ≡ min (min (length (conn_left self.old)) (length into.new)) (conn_piece self.old)) }
+        ensures brings { IfOk result (λ n.
+            n ≡ min (min (length (conn_left self.old)) (length into.new)) (conn_piece self.old)) }
         ensures counted { IsCounted (conn_plan self.old) (conn_plan self.new) }
         ensures fault { IsErr result ↔ (fails_next (conn_plan self.old) ≡ true) }
         ensures count { (conn_now self.new).source_faults ≡ count_after (conn_now self.old).source_faults result }

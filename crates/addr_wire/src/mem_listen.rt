@@ -33,7 +33,8 @@ impl MemListen {
     /// over all methods, `finish` too, which is never refused. It takes at once the room for its two lists.
     pub fn new(alloc: Global, conns: Vec<MemConn>, fails: Vec<u32>) -> Result<MemListen, NoMemory>
         ensures all { IfOk result (λ listen. listen_all listen ≡ map conn_now conns.items) }
-        ensures now { IfOk result (λ listen. listen_now listen ≡ record { port = None; conns = Some (record { accepted = []; finished = [] }); faults = 0 }) }
+        ensures now { IfOk result (λ listen. listen_now listen
+            ≡ record { port = None; conns = Some (record { accepted = []; finished = [] }); faults = 0 }) }
         ensures plan { IfOk result (λ listen. IsFresh fails.items (listen_plan listen)) }
     {
         let copies = copies_of(alloc, &conns)?;
@@ -86,9 +87,11 @@ impl Listen for MemListen {
     fn accept(&mut self) -> Result<MemConn, Failed>
         ensures accepts { Accepts conn_now (listen_now self.old) result (listen_now self.new) }
         ensures all { listen_all self.new ≡ listen_all self.old }
-        ensures next { IfOk result (λ conn. conn_now conn ∷ drop (listen_handed self.new) (listen_all self.new) ≡ drop (listen_handed self.old) (listen_all self.old)) }
+        ensures next { IfOk result (λ conn. conn_now conn ∷ drop (listen_handed self.new) (listen_all self.new)
+            ≡ drop (listen_handed self.old) (listen_all self.old)) }
         ensures counted { IsCounted (listen_plan self.old) (listen_plan self.new) }
-        ensures fault { IsErr result ↔ ((fails_next (listen_plan self.old) ≡ true) ⊎ (length (listen_all self.old) ≤ listen_handed self.old)) }
+        ensures fault { IsErr result ↔ ((fails_next (listen_plan self.old) ≡ true)
+            ⊎ (length (listen_all self.old) ≤ listen_handed self.old)) }
         ensures count { self.new.faults ≡ count_after self.old.faults result }
     {
         if self.plan.next_fails() {
