@@ -1,3 +1,4 @@
+pub mod ChangeLemmas
 pub mod DistinctLemmas
 pub mod ElementLemmas
 pub mod EvaluatedLemmas
@@ -5,10 +6,12 @@ pub mod FieldLemmas
 pub mod FoundLemmas
 pub mod ListFieldLemmas
 pub mod LookupLemmas
+pub mod NameLemmas
 pub mod NumberLemmas
 pub mod OrderLemmas
 pub mod PlainLaws
 pub mod PlainLemmas
 pub mod PlainTextLemmas
+pub mod PostingLemmas
 pub mod RepeatLemmas
 pub mod TextLemmas

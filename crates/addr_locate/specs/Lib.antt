@@ -1,7 +1,10 @@
 pub mod Alike
+pub mod Changes
 pub mod Evaluated
 pub mod Lookups
 pub mod Merge
+pub mod Names
+pub mod Postings
 pub mod PlainFields
 pub mod PlainParts
 pub mod PlainRows

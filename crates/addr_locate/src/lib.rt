@@ -11,12 +11,14 @@ mod evaluation;
 mod laws;
 mod locator;
 mod merging;
+mod names;
 mod numbering;
 mod places;
 mod plain_fields;
 mod plain_lists;
 mod plain_reader;
 mod plain_writer;
+mod postings;
 mod rows;
 #[cfg(test)]
 mod tests;

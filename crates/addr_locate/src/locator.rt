@@ -1,4 +1,4 @@
-// A catalogue's rows in memory, with keys and types found by their texts. Lists are kept plain: a text is searched for.
+// A catalogue's rows in memory: keys and types are found by their texts, and the rows of a key without a walk over all rows.
 ghost use Rattle.std.specs.Prelude.{◌≡◌, ◌<◌, ◌^◌, length, nat_lt, slice_get, IsTrue, IfOk, OnErr, OnOk, is_some};
 ghost use Rattle.std.specs.List.{list_all, list_any};
 ghost use Rattle.std.specs.Option.{option_copied};
@@ -8,8 +8,9 @@ ghost use Rattle.addr_locate.specs.Rows.{AreRows, has_sound_deps, are_bundles, n
 
 use crate::evaluation::evaluated_bundles;
 use crate::merging::{distinct_deps, merge_rows};
+use crate::names::Names;
 use crate::rows::{AssetRow, BundleRow, Kind, Merge};
-use crate::texts::{place_of, text_at};
+use crate::texts::text_at;
 use addr_base::{BundleNo, Items, KeyNo, NoMemory, RowNo, Text, TypeNo, Var};
 use std::alloc::Global;
 use std::marker::Model;
@@ -19,18 +20,21 @@ use std::marker::Model;
 pub struct Locator {
     pub(crate) bundles: Items<BundleRow>,
     pub(crate) assets: Items<AssetRow>,
-    pub(crate) keys: Items<Text>,
-    pub(crate) kinds: Items<Text>,
+    pub(crate) keys: Names,
+    pub(crate) kinds: Names,
+    /// The rows of each key, in the order of the catalogue.
+    pub(crate) postings: Vec<Items<RowNo>>,
 }
 
 impl Model for Locator {
-    ghost use Rattle.addr_locate.specs.Rows.{Rows, AreRows};
+    ghost use Rattle.addr_locate.specs.Rows.{Rows};
+    ghost use Rattle.addr_locate.specs.Postings.{IsLocator};
 
     ghost Value = { Rows };
 
     ghost view = { λ l. record { bundles = l.bundles; assets = l.assets; keys = l.keys; kinds = l.kinds } };
 
-    ghost invariant = { λ l. AreRows (record { bundles = l.bundles; assets = l.assets; keys = l.keys; kinds = l.kinds }) };
+    ghost invariant = { λ l. IsLocator (record { bundles = l.bundles; assets = l.assets; keys = l.keys; kinds = l.kinds }) l.postings.items };
 }
 
 impl Locator {
@@ -62,33 +66,33 @@ impl Locator {
     pub fn keys(&self) -> &[Text]
         ensures { result.now ≡ self.now.keys }
     {
-        self.keys.as_slice()
+        self.keys.texts()
     }
 
     /// The texts of the types, in the order of their numbers.
     pub fn kinds(&self) -> &[Text]
         ensures { result.now ≡ self.now.kinds }
     {
-        self.kinds.as_slice()
+        self.kinds.texts()
     }
 
-    /// The number of the key with that text. Searches the list of keys.
+    /// The number of the key with that text, by a hash: it takes no walk over the keys.
     pub fn key_no(&self, text: &str) -> Option<KeyNo>
         ensures place { result ≡ key_of self.now text.now }
         ensures known { is_some result ≡ list_any (has_key_text self.now text.now) self.now.assets }
     {
-        match place_of(self.keys.as_slice(), text) {
+        match self.keys.place(text) {
             None => None,
             Some(place) => Some(KeyNo(place)),
         }
     }
 
-    /// The number of the type with that text. Searches the list of types.
+    /// The number of the type with that text, by a hash: it takes no walk over the types.
     pub fn type_no(&self, text: &str) -> Option<TypeNo>
         ensures place { result ≡ kind_of self.now text.now }
         ensures known { is_some result ≡ list_any (has_kind_text self.now text.now) self.now.assets }
     {
-        match place_of(self.kinds.as_slice(), text) {
+        match self.kinds.place(text) {
             None => None,
             Some(place) => Some(TypeNo(place)),
         }
@@ -97,13 +101,13 @@ impl Locator {
     pub fn key_text(&self, key: KeyNo) -> Option<&str>
         ensures { option_copied result ≡ slice_get self.now.keys key.0 }
     {
-        text_at(self.keys.as_slice(), key.0)
+        text_at(self.keys.texts(), key.0)
     }
 
     pub fn type_text(&self, kind: TypeNo) -> Option<&str>
         ensures { option_copied result ≡ slice_get self.now.kinds kind.0 }
     {
-        text_at(self.kinds.as_slice(), kind.0)
+        text_at(self.kinds.texts(), kind.0)
     }
 
     /// The asset rows that the keys lead to, in the order of the catalogue. A key that isn't in the catalogue is `None`.
@@ -117,7 +121,14 @@ impl Locator {
         ensures rows { IfOk result (λ found. found ≡ merged self.now.assets keys.now mode kind) }
         ensures within { IfOk result (λ found. IsTrue (list_all (λ r. nat_lt r.0 (length self.now.assets)) found)) }
     {
-        merge_rows(alloc, self.assets.as_slice(), keys, mode, kind)
+        merge_rows(
+            alloc,
+            self.assets.as_slice(),
+            self.postings.as_slice(),
+            keys,
+            mode,
+            kind,
+        )
     }
 
     /// The distinct bundles that the rows need, in order of first occurrence. A number that is no row's has none.

@@ -2,15 +2,17 @@
 ghost use Rattle.std.specs.Prelude.{◌≡◌, ◌==◌, ◌<◌, ◌^◌, ◌++◌, ◌∷◌, [], ◌&&◌, not, List, map, length, IfOk, OnOk};
 ghost use Rattle.std.specs.List.{list_any, list_all};
 ghost use Rattle.addr_locate.specs.Lookups.{AreFound};
+ghost use Rattle.addr_locate.specs.Postings.{ArePostings};
 ghost use Rattle.addr_locate.specs.Merge.{is_kind, has_key, is_match, has_none, rows_where, first_filled, merged, deps_of_row, deps_of};
 ghost use Rattle.addr_base.specs.declared.ids.BundleNo.{BundleNo};
 
+use crate::postings::posted;
 use crate::rows::{AssetRow, Kind, Merge};
 use addr_base::{BundleNo, Items, KeyNo, NoMemory, RowNo};
 use std::alloc::Global;
 use std::collections::BTreeSet;
 
-fn is_kind(kind: Kind, row: &AssetRow) -> bool
+pub(crate) fn is_kind(kind: Kind, row: &AssetRow) -> bool
     ensures { result ≡ is_kind kind row.now }
 {
     match kind {
@@ -120,18 +122,42 @@ fn matches_all(kind: Kind, keys: &[Option<KeyNo>], row: &AssetRow) -> bool
     keys.iter().all(|key| is_match(kind, *key, row))
 }
 
+/// The rows that have the key and are of the asked kind, by the key's list where it has one.
+fn listed(
+    alloc: Global,
+    rows: &[AssetRow],
+    postings: &[Items<RowNo>],
+    kind: Kind,
+    key: Option<KeyNo>,
+) -> Result<Items<RowNo>, NoMemory>
+    requires few { length rows.now < 2 ^ 32 }
+    requires postings { ArePostings rows.now (length postings.now) postings.now }
+    ensures { IfOk result (λ found. found ≡ rows_where (is_match kind key) rows.now) }
+{
+    match key {
+        Some(known) => if (known.0 as usize) < postings.len() {
+            posted(alloc, rows, postings, kind, known)
+        } else {
+            matching(alloc, rows, kind, key)
+        },
+        None => Ok(Items::new(alloc)),
+    }
+}
+
 /// The rows of the first key that has any of the asked kind.
 fn matching_first(
     alloc: Global,
     rows: &[AssetRow],
+    postings: &[Items<RowNo>],
     kind: Kind,
     keys: &[Option<KeyNo>],
 ) -> Result<Items<RowNo>, NoMemory>
-    requires { length rows.now < 2 ^ 32 }
+    requires few { length rows.now < 2 ^ 32 }
+    requires postings { ArePostings rows.now (length postings.now) postings.now }
     ensures { IfOk result (λ found. found ≡ first_filled (map (λ key. rows_where (is_match kind key) rows.now) keys.now)) }
 {
     for key in keys {
-        let found = matching(alloc, rows, kind, *key)?;
+        let found = listed(alloc, rows, postings, kind, *key)?;
         if !found.is_empty() {
             return Ok(found);
         }
@@ -144,15 +170,17 @@ fn matching_first(
 pub(crate) fn merge_rows(
     alloc: Global,
     rows: &[AssetRow],
+    postings: &[Items<RowNo>],
     keys: &[Option<KeyNo>],
     mode: Merge,
     kind: Kind,
 ) -> Result<Items<RowNo>, NoMemory>
-    requires { length rows.now < 2 ^ 32 }
+    requires few { length rows.now < 2 ^ 32 }
+    requires postings { ArePostings rows.now (length postings.now) postings.now }
     ensures { IfOk result (λ found. found ≡ merged rows.now keys.now mode kind) }
 {
     match mode {
-        Merge::UseFirst => matching_first(alloc, rows, kind, keys),
+        Merge::UseFirst => matching_first(alloc, rows, postings, kind, keys),
         Merge::Union => matching_some(alloc, rows, kind, keys),
         Merge::Intersection => matching_each(alloc, rows, kind, keys),
     }

@@ -5,7 +5,9 @@ ghost use Rattle.std.specs.List.{list_all};
 ghost use Rattle.addr_locate.specs.Rows.{place_of, numbered, keys_of, kinds_of, rows_of, has_sound_deps, no_text_twice};
 
 use crate::locator::Locator;
+use crate::names::Names;
 use crate::places::Places;
+use crate::postings::postings_of;
 use crate::rows::{AssetRow, BundleRow, PlainAsset};
 use crate::texts::{add_text, add_texts};
 use addr_base::{Items, KeyNo, NoMemory, Text, TypeNo};
@@ -28,12 +30,16 @@ pub fn of_rows(
     let keys = keys_of(alloc, assets.as_slice())?;
     let kinds = kinds_of(alloc, assets.as_slice())?;
     let assets = number_rows(alloc, keys.as_slice(), kinds.as_slice(), assets)?;
+    let postings = postings_of(alloc, assets.as_slice(), keys.len())?;
+    let keys = Names::of(alloc, keys)?;
+    let kinds = Names::of(alloc, kinds)?;
     let bundles = Items::from_vec(bundles);
     Ok(Locator {
         bundles,
         assets,
         keys,
         kinds,
+        postings,
     })
 }
 

@@ -1,30 +1,11 @@
-// Searches in a plain list of texts, and a list that takes each text once.
-ghost use Rattle.std.specs.Prelude.{◌≡◌, ◌<◌, ◌^◌, ◌++◌, ◌∷◌, [], ℕ, List, length, slice_get, OnOk};
-ghost use Rattle.std.specs.List.{position};
+// The text at a place of a list, and a list that takes each text once.
+ghost use Rattle.std.specs.Prelude.{◌≡◌, ◌++◌, ◌∷◌, [], ℕ, List, slice_get, OnOk};
 ghost use Rattle.std.specs.Option.{option_copied};
-ghost use Rattle.std.specs.Str.{bytes_eq};
 ghost use Rattle.addr_locate.specs.Lookups.{AreListed};
 
 use addr_base::{Items, NoMemory, Text};
 use std::alloc::Global;
 use std::collections::BTreeMap;
-
-fn is_text(known: &Text, text: &str) -> bool
-    ensures { result ≡ bytes_eq known.now text.now }
-{
-    known.as_str() == text
-}
-
-/// The place of the text, if it is there.
-pub(crate) fn place_of(texts: &[Text], text: &str) -> Option<u32>
-    requires { length texts.now < 2 ^ 32 }
-    ensures { result ≡ position (λ t. bytes_eq t text.now) texts.now }
-{
-    match texts.iter().position(|t| is_text(t, text)) {
-        None => None,
-        Some(place) => Some(place as u32),
-    }
-}
 
 /// The text at the place, if there is one.
 pub(crate) fn text_at(texts: &[Text], place: u32) -> Option<&str>

@@ -1,7 +1,16 @@
-use Rattle.std.proofs.Common.{◌≡◌, ◌∙◌, ap, sym, subst, map, length, arith}
-use Rattle.addr_locate.specs.Rows.{AreRows, numbered, keys_of, kinds_of}
+use Rattle.std.proofs.Common.{◌≡◌, ◌∙◌, ap, sym, subst, map, length, arith, List, ℕ, refl}
+use Rattle.std.specs.List.{list_all}
+use Rattle.std.proofs.lemmas.List.{length-map}
+use Rattle.addr_locate.specs.declared.rows.AssetRow.{AssetRow}
+use Rattle.addr_locate.specs.declared.rows.BundleRow.{BundleRow}
+use Rattle.addr_locate.specs.Postings.{no_key_twice}
+use Rattle.addr_locate.proofs.PostingLemmas.{postings_at, rows_apart}
+use Rattle.addr_locate.specs.Rows.{Rows, rows_of, AreRows, numbered, keys_of, kinds_of}
 use Rattle.addr_locate.proofs.NumberLemmas.{AreRows-rows_of, few_kinds_of, rows_of-made}
 use Rattle.addr_locate.proofs.numbering.of_rows.Goals as goal
+
+of_names : (bundles : List BundleRow) (rows : List AssetRow) (keys keys2 kinds kinds2 : List (List ℕ)) → keys2 ≡ keys → kinds2 ≡ kinds → ◌≡◌ {A = Rows} (record { bundles = bundles; assets = rows; keys = keys2; kinds = kinds2 }) (record { bundles = bundles; assets = rows; keys = keys; kinds = kinds })
+of_names bundles rows keys keys2 kinds kinds2 same_keys same_kinds = rw (same_keys, same_kinds)
 
 pub number_rows-requires-clause-few_kinds : goal.number_rows-requires-clause-few_kinds
 number_rows-requires-clause-few_kinds c =
@@ -18,7 +27,11 @@ invariant_of-result c =
     let made : c.in_ok-assets.assets ≡ map (numbered c.as_slice-3.result.now c.as_slice-4.result.now) items = c.in_ok-assets.ensures in
     let rows = rw (c.as_slice-3.ensures, c.as_slice-4.ensures) at made in
     let same = rows_of-made c.args.bundles.items c.from_vec-bundles.result items c.in_ok-assets.assets c.in_ok-keys.keys c.in_ok-kinds.kinds c.from_vec-bundles.ensures rows held_keys held_kinds in
-    subst AreRows (sym same) (AreRows-rows_of c.args.bundles.items items c.requires.few_bundles c.requires.few_assets c.requires.few_keys c.requires.deps c.requires.keys)
+    let whole = of_names c.from_vec-bundles.result c.in_ok-assets.assets c.in_ok-keys.keys c.in_ok-keys-2.keys c.in_ok-kinds.kinds c.in_ok-kinds-2.kinds c.in_ok-keys-2.ensures c.in_ok-kinds-2.ensures ∙ same in
+    record {
+      are = subst AreRows (sym whole) (AreRows-rows_of c.args.bundles.items items c.requires.few_bundles c.requires.few_assets c.requires.few_keys c.requires.deps c.requires.keys);
+      posted = postings_at c.as_slice-5.result.now c.in_ok-assets.assets c.len.result (length c.in_ok-keys-2.keys) c.in_ok-postings.postings.items c.as_slice-5.ensures (c.len.ensures ∙ ap length (sym c.in_ok-keys-2.ensures)) c.in_ok-postings.ensures;
+    }
 
 pub returns : goal.returns
 returns c =
@@ -27,5 +40,33 @@ returns c =
     let held_keys : c.in_ok-keys.keys ≡ keys_of items = c.in_ok-keys.ensures ∙ ap keys_of c.as_slice.ensures.value in
     let made : c.in_ok-assets.assets ≡ map (numbered c.as_slice-3.result.now c.as_slice-4.result.now) items = c.in_ok-assets.ensures in
     let rows = rw (c.as_slice-3.ensures, c.as_slice-4.ensures) at made in
-    let same = rows_of-made c.args.bundles.items c.from_vec-bundles.result items c.in_ok-assets.assets c.in_ok-keys.keys c.in_ok-kinds.kinds c.from_vec-bundles.ensures rows held_keys held_kinds in
-    same
+    of_names c.from_vec-bundles.result c.in_ok-assets.assets c.in_ok-keys.keys c.in_ok-keys-2.keys c.in_ok-kinds.kinds c.in_ok-kinds-2.kinds c.in_ok-keys-2.ensures c.in_ok-kinds-2.ensures
+    ∙ rows_of-made c.args.bundles.items c.from_vec-bundles.result items c.in_ok-assets.assets c.in_ok-keys.keys c.in_ok-kinds.kinds c.from_vec-bundles.ensures rows held_keys held_kinds
+
+pub of-requires : goal.of-requires
+of-requires c = omega (arith, ap length (c.in_ok-keys.ensures ∙ ap keys_of c.as_slice.ensures.value), c.requires.few_keys)
+
+pub of-requires-2 : goal.of-requires-2
+of-requires-2 c =
+    let items = c.args.assets.items in
+    omega (arith, ap length (c.in_ok-kinds.ensures ∙ ap kinds_of c.as_slice-2.ensures.value), few_kinds_of items, c.requires.few_assets)
+
+pub postings_of-requires-clause-few : goal.postings_of-requires-clause-few
+postings_of-requires-clause-few c =
+    let items = c.args.assets.items in
+    let held_kinds : c.in_ok-kinds.kinds ≡ kinds_of items = c.in_ok-kinds.ensures ∙ ap kinds_of c.as_slice-2.ensures.value in
+    let held_keys : c.in_ok-keys.keys ≡ keys_of items = c.in_ok-keys.ensures ∙ ap keys_of c.as_slice.ensures.value in
+    let made : c.in_ok-assets.assets ≡ map (numbered c.as_slice-3.result.now c.as_slice-4.result.now) items = c.in_ok-assets.ensures in
+    let rows = rw (c.as_slice-3.ensures, c.as_slice-4.ensures) at made in
+    omega (arith, ap length c.as_slice-5.ensures, ap length rows, length-map items (numbered c.in_ok-keys.keys c.in_ok-kinds.kinds), c.requires.few_assets)
+
+pub postings_of-requires-clause-once : goal.postings_of-requires-clause-once
+postings_of-requires-clause-once c =
+    let items = c.args.assets.items in
+    let held_kinds : c.in_ok-kinds.kinds ≡ kinds_of items = c.in_ok-kinds.ensures ∙ ap kinds_of c.as_slice-2.ensures.value in
+    let held_keys : c.in_ok-keys.keys ≡ keys_of items = c.in_ok-keys.ensures ∙ ap keys_of c.as_slice.ensures.value in
+    let made : c.in_ok-assets.assets ≡ map (numbered c.as_slice-3.result.now c.as_slice-4.result.now) items = c.in_ok-assets.ensures in
+    let rows = rw (c.as_slice-3.ensures, c.as_slice-4.ensures) at made in
+    let same = rows_of-made c.args.bundles.items c.args.bundles.items items c.in_ok-assets.assets c.in_ok-keys.keys c.in_ok-kinds.kinds refl rows held_keys held_kinds in
+    ap (list_all (λ (a : AssetRow). no_key_twice a.keys)) (c.as_slice-5.ensures ∙ ap (λ (r : Rows). r.assets) same)
+    ∙ rows_apart (rows_of c.args.bundles.items items) (AreRows-rows_of c.args.bundles.items items c.requires.few_bundles c.requires.few_assets c.requires.few_keys c.requires.deps c.requires.keys)

@@ -10,7 +10,7 @@ pub returns-clause-within : goal.returns-clause-within
 returns-clause-within c =
     let assets = c.args.self.now.assets in
     let same : c.as_slice.result.now ≡ assets = c.as_slice.ensures ∙ ap (λ (r : Rows). r.assets) c.self.view_is in
-    let sound = subst (λ (r : Rows). IsTrue (list_all (λ a. has_sound_deps (length r.bundles) a.deps) r.assets)) c.self.view_is c.self.invariant.deps in
+    let sound = subst (λ (r : Rows). IsTrue (list_all (λ a. has_sound_deps (length r.bundles) a.deps) r.assets)) c.self.view_is c.self.invariant.are.deps in
     let count = length c.args.self.now.bundles in
     IfOk-weaker c.distinct_deps.result (λ found. found ≡ deps_of assets c.args.rows.now) _ (λ found is. ap (are_bundles count) is ∙ deps_of-within count assets c.args.rows.now sound) (rw same at c.distinct_deps.ensures)
 

@@ -8,4 +8,7 @@ pub invariant_of-self : goal.invariant_of-self
 invariant_of-self c =
     let kept = c.self.inside in
     let as_many = ap length c.in_ok-self-inside.ensures ∙ length-map c.as_slice.result.now (evaluated_bundle c.args.vars.now) ∙ ap length c.as_slice.ensures in
-    AreRows-as_many kept.bundles c.in_ok-self-inside.field-0 kept.assets kept.keys kept.kinds as_many c.self.invariant
+    record {
+      are = AreRows-as_many kept.bundles c.in_ok-self-inside.field-0 kept.assets kept.keys kept.kinds as_many c.self.invariant.are;
+      posted = c.self.invariant.posted;
+    }

@@ -5,12 +5,10 @@ use Rattle.addr_locate.proofs.locator.Locator.key_no.Goals as goal
 
 pub returns-in-None-clause-known : goal.returns-in-None-clause-known
 returns-in-None-clause-known c =
-    let numbers = subst (λ (r : Rows). rows_of r.bundles (map (written r) r.assets) ≡ r) c.self.view_is c.self.invariant.numbers in
-    let same = c.as_slice.ensures ∙ ap (λ (r : Rows). r.keys) c.self.view_is in
-    ap is_some (sym c.in-None.is) ∙ key_known c.args.self.now c.args.text.now c.as_slice.result.now c.place_of.result numbers same c.place_of.ensures
+    let numbers = subst (λ (r : Rows). rows_of r.bundles (map (written r) r.assets) ≡ r) c.self.view_is c.self.invariant.are.numbers in
+    ap is_some (sym c.in-None.is) ∙ key_known c.args.self.now c.args.text.now c.self.inside.keys c.place.result numbers (ap (λ (r : Rows). r.keys) c.self.view_is) c.place.ensures
 
 pub returns-in-Some-clause-known : goal.returns-in-Some-clause-known
 returns-in-Some-clause-known c =
-    let numbers = subst (λ (r : Rows). rows_of r.bundles (map (written r) r.assets) ≡ r) c.self.view_is c.self.invariant.numbers in
-    let same = c.as_slice.ensures ∙ ap (λ (r : Rows). r.keys) c.self.view_is in
-    ap is_some (sym c.in-Some.is) ∙ key_known c.args.self.now c.args.text.now c.as_slice.result.now c.place_of.result numbers same c.place_of.ensures
+    let numbers = subst (λ (r : Rows). rows_of r.bundles (map (written r) r.assets) ≡ r) c.self.view_is c.self.invariant.are.numbers in
+    ap is_some (sym c.in-Some.is) ∙ key_known c.args.self.now c.args.text.now c.self.inside.keys c.place.result numbers (ap (λ (r : Rows). r.keys) c.self.view_is) c.place.ensures
