@@ -1,5 +1,5 @@
 -- Connections served one after the other: what each leaves, joined.
-use Rattle.std.proofs.Common.{◌≡◌, ◌<◌, ◌≤◌, ◌+◌, ◌-◌, ◌^◌, ◌==◌, Bool, true, false, cond, zero-add, ◌++◌, ◌⊎◌, ℕ, List, [], ◌∷◌, Option, Some, None, Result, Ok, Err, IfSome, IsSomeAnd, IsNone, MatchOption, refl, sym, ◌∙◌, ap, arith, length, map, flat_map, subst, inl, inr, append_assoc}
+use Rattle.std.proofs.Common.{◌≡◌, ◌≤◌, ◌+◌, ◌-◌, ◌^◌, ◌==◌, Bool, true, false, cond, zero-add, ◌++◌, ◌⊎◌, ℕ, List, [], ◌∷◌, Option, Some, None, IfSome, refl, sym, ◌∙◌, ap, arith, length, map, subst, inl, inr, append_assoc}
 use Rattle.std.specs.List.{count_by}
 use Rattle.std.proofs.lemmas.Bool.{cases_lt, eqb-true}
 use Rattle.std.proofs.lemmas.Grind.{flat_map-append}
@@ -7,15 +7,14 @@ use Rattle.std.proofs.lemmas.List.Sums.{sum_by-append}
 use Rattle.std.proofs.lemmas.List.{append-nil, length-append, length-map, map-append}
 use Rattle.addr_base.specs.Faults.{Rose}
 use Rattle.addr_base.specs.declared.files.MemFile.{MemFile}
-use Rattle.addr_base.specs.declared.memory.Failed.{Failed as FailedType}
 use Rattle.addr_wire.specs.Connections.{ConnNow}
 use Rattle.addr_wire.specs.Listeners.{Conns, ListenNow}
 use Rattle.addr_http.specs.Responses.{Causes, Tells}
 use Rattle.addr_http.specs.declared.answering.Served.{Served}
 use Rattle.addr_http.specs.declared.answering.Served.TheVariants.{Answered, Broken, NoMemory}
-use Rattle.addr_serve.specs.Lines.{memory_line, net_line, port_line, served_line}
-use Rattle.addr_serve.specs.Loops.{IsAhead, LastCause, PrintsLast, PrintsLine, PrintsSo, PutCause, PutsLast, ServesAll, SinkCause}
-use Rattle.addr_serve.specs.Serving.{Adds, AreTurns, Follows, IsTurn, is_failed, Prints, Serves, Turn, Writes, lines_of}
+use Rattle.addr_serve.specs.Lines.{net_line, port_line, served_line}
+use Rattle.addr_serve.specs.Loops.{IsAhead, PrintsLast, PrintsLine, PrintsSo, ServesAll}
+use Rattle.addr_serve.specs.Serving.{Adds, AreTurns, Follows, is_failed, Prints, Serves, Turn, Writes, lines_of}
 use Rattle.addr_serve.specs.declared.serving.Ended.{Ended}
 use Rattle.addr_serve.specs.declared.serving.Ended.TheVariants.{Done, Memory, Net, Sink}
 

@@ -1,10 +1,9 @@
 -- One connection, and all of them, inside serving.
-use Rattle.std.specs.Prelude.{ℕ, ◌≡◌, ◌<◌, ◌≤◌, List, [], ◌∷◌, length, Option, Result, Ok, Err, IfSome, ◌⊎◌}
-use Rattle.std.specs.Option.{ForSome}
+use Rattle.std.specs.Prelude.{ℕ, ◌≡◌, ◌≤◌, List, length, Option, IfSome, ◌⊎◌}
 use Rattle.addr_base.specs.Faults.{Rose}
 use Rattle.addr_base.specs.declared.files.MemFile.{MemFile}
 use Rattle.addr_wire.specs.Listeners.{Conns, ListenNow}
-use Rattle.addr_serve.specs.Lines.{memory_line, net_line, served_line}
+use Rattle.addr_serve.specs.Lines.{memory_line, net_line}
 use Rattle.addr_serve.specs.Serving.{Adds, AreTurns, Follows, Turn, Writes, lines_of}
 use Rattle.addr_serve.specs.declared.serving.Ended.{Ended}
 use Rattle.addr_serve.specs.declared.serving.Ended.TheVariants.{Done, Memory, Net, Sink}

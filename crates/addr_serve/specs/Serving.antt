@@ -1,5 +1,5 @@
 -- What serving connections, one after the other, leaves of the listener, the depot and the sink.
-use Rattle.std.specs.Prelude.{ℕ, ◌≡◌, ◌≤◌, ◌+◌, ◌-◌, ◌^◌, ◌==◌, List, [], ◌∷◌, ◌++◌, length, map, flat_map, count_by, Bool, true, false, Option, Some, IfSome, MatchOption, IsNone, IsSomeAnd, ◌⊎◌}
+use Rattle.std.specs.Prelude.{ℕ, ◌≡◌, ◌≤◌, ◌+◌, ◌-◌, ◌^◌, ◌==◌, List, [], ◌∷◌, ◌++◌, length, map, flat_map, count_by, Bool, false, Option, IfSome, MatchOption, IsNone, IsSomeAnd, ◌⊎◌}
 use Rattle.addr_base.specs.Faults.{Rose}
 use Rattle.addr_base.specs.declared.files.MemFile.{MemFile}
 use Rattle.addr_wire.specs.Connections.{ConnNow}
@@ -7,7 +7,7 @@ use Rattle.addr_wire.specs.Listeners.{Conns, ListenNow}
 use Rattle.addr_http.specs.Responses.{Causes, Tells}
 use Rattle.addr_http.specs.declared.answering.Served.{Served}
 use Rattle.addr_http.specs.declared.answering.Served.TheVariants.{Answered, Broken, NoMemory}
-use Rattle.addr_serve.specs.Lines.{memory_line, net_line, port_line, served_line}
+use Rattle.addr_serve.specs.Lines.{net_line, port_line, served_line}
 use Rattle.addr_serve.specs.declared.serving.Ended.{Ended}
 use Rattle.addr_serve.specs.declared.serving.Ended.TheVariants.{Done, Memory, Net, Sink}
 

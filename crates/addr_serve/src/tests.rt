@@ -1,4 +1,8 @@
 // What no clause says: the lines as they are printed, and that serving succeeds where memory is ample.
+ghost use Rattle.std.specs.Prelude.{IfOk};
+ghost use Rattle.addr_wire.specs.MemListeners.{listen_now};
+ghost use Rattle.addr_serve.specs.Loops.{IsAhead};
+
 use crate::{Ended, serve};
 use addr_base::{Items, MemDepot, MemFile, MemSink as Out, Text};
 use addr_wire::{MemConn, MemListen};
@@ -15,7 +19,9 @@ fn one_file(alloc: Global) -> Result<MemDepot, Fail> {
 }
 
 /// A listener with a connection that asks for `/remote/a`, and one that asks for `/remote/b`.
-fn two_peers(alloc: Global, fails: &[u32]) -> Result<MemListen, Fail> {
+fn two_peers(alloc: Global, fails: &[u32]) -> Result<MemListen, Fail>
+    ensures { IfOk result (λ listen. IsAhead (listen_now listen).conns) }
+{
     let mut conns = Vec::new(alloc);
     for request in [
         "GET /remote/a HTTP/1.1\r\nHost: x\r\n\r\n",
@@ -24,7 +30,8 @@ fn two_peers(alloc: Global, fails: &[u32]) -> Result<MemListen, Fail> {
         let input = Vec::from_slice(alloc, request.as_bytes())?;
         conns.push(MemConn::new(alloc, input, Vec::new(alloc)))?;
     }
-    Ok(MemListen::new(alloc, conns, Vec::from_slice(alloc, fails)?)?)
+    let fails = Vec::from_slice(alloc, fails)?;
+    Ok(MemListen::new(alloc, conns, fails)?)
 }
 
 #[test]

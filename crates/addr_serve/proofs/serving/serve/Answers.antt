@@ -1,4 +1,3 @@
-use Rattle.std.proofs.Common.{◌≡◌}
 use Rattle.addr_serve.proofs.ServeLemmas.{serves_closed, serves_opened}
 use Rattle.addr_serve.proofs.serving.serve.Goals as goal
 

@@ -1,4 +1,4 @@
-use Rattle.std.proofs.Common.{◌≡◌, rules}
+use Rattle.std.proofs.Common.{rules}
 use Rattle.addr_serve.proofs.ServeLemmas.{serves_broken, serves_from, serves_refused, writes_same}
 use Rattle.addr_serve.specs.Lines.{port_line}
 use Rattle.addr_serve.proofs.serving.serve_from.Goals as goal

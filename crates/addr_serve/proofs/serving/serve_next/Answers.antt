@@ -1,4 +1,3 @@
-use Rattle.std.proofs.Common.{◌≡◌}
 use Rattle.addr_serve.proofs.ServeLemmas.{all_one}
 use Rattle.addr_serve.proofs.serving.serve_next.Goals as goal
 
