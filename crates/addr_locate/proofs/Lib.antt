@@ -6,6 +6,7 @@ pub mod FieldLemmas
 pub mod FoundLemmas
 pub mod ListFieldLemmas
 pub mod LookupLemmas
+pub mod MergeLemmas
 pub mod NameLemmas
 pub mod NumberLemmas
 pub mod OrderLemmas

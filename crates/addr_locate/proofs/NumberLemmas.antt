@@ -1,6 +1,6 @@
 -- Texts numbered and written back: one more text at a step of a loop, the place of a text, and that the rows which
 -- `of_rows` makes are those that every locator keeps.
-use Rattle.std.proofs.Common.{suc, ◌+◌, ℕ, ◌≡◌, ◌≤◌, ◌<◌, ◌^◌, ◌∙◌, Bool, true, false, not, ◌||◌, nat_lt, Some, None, unwrap_or, List, [], ◌∷◌, ◌++◌, length, map, filter, refl, ap, sym, cond, arith, IsTrue}
+use Rattle.std.proofs.Common.{suc, ◌+◌, ℕ, ◌≡◌, ◌≤◌, ◌<◌, ◌^◌, ◌∙◌, Bool, true, false, not, ◌||◌, nat_lt, Some, None, unwrap_or, List, [], ◌∷◌, ◌++◌, length, map, filter, refl, ap, sym, cond, arith, IsTrue, subst}
 use Rattle.std.specs.List.{list_any, list_all, flat_map, position, position_or_len}
 use Rattle.std.specs.Str.{bytes_eq}
 use Rattle.std.proofs.lemmas.Bool.{ltb-false}
@@ -14,8 +14,8 @@ use Rattle.addr_base.specs.declared.ids.KeyNo.{KeyNo}
 use Rattle.addr_locate.specs.declared.rows.AssetRow.{AssetRow}
 use Rattle.addr_locate.specs.declared.rows.BundleRow.{BundleRow}
 use Rattle.addr_locate.specs.declared.rows.PlainAsset.{PlainAsset}
-use Rattle.addr_locate.specs.Rows.{AreRows, texts_once, text_at, place_of, numbered, written, rows_of, keys_of, kinds_of, has_sound_deps, no_text_twice}
-use Rattle.addr_locate.proofs.TextLemmas.{same_texts, text_is_itself, any-texts_once, length-texts_once-le}
+use Rattle.addr_locate.specs.Rows.{Rows, AreRows, texts_once, text_at, place_of, numbered, written, rows_of, keys_of, kinds_of, has_sound_deps, no_text_twice}
+use Rattle.addr_locate.proofs.TextLemmas.{same_texts, text_is_itself, any-texts_once, length-texts_once-le, place-within}
 
 or_true : (b : Bool) → (b || true) ≡ true
 or_true true = refl
@@ -89,6 +89,27 @@ AreRows-rows_of bundles assets few_bundles few_assets few_keys deps keys =
       deps = list_all-map (λ (a : AssetRow). has_sound_deps (length bundles) a.deps) (numbered (keys_of assets) (kinds_of assets)) assets ∙ deps;
       keys = sym (list_all-map (λ (a : PlainAsset). no_text_twice a.keys) (written (rows_of bundles assets)) (map (numbered (keys_of assets) (kinds_of assets)) assets)) ∙ (ap (list_all (λ (a : PlainAsset). no_text_twice a.keys)) back ∙ keys);
     }
+
+-- each key of a row is the number of a text
+below-keys : (keys : List (List ℕ)) (ts : List (List ℕ)) → ((t : List ℕ) → list_any (λ u. bytes_eq u t) ts ≡ true → list_any (λ u. bytes_eq u t) keys ≡ true) → list_all (λ (k : KeyNo). nat_lt k.0 (length keys)) (map (λ t. let k : KeyNo = record { 0 = place_of keys t } in k) ts) ≡ true
+below-keys keys [] held = refl
+below-keys keys (t ∷ ts) held =
+    let here : nat_lt (place_of keys t) (length keys) ≡ true = place-within (λ u. bytes_eq u t) keys ∙ held t (rw (text_is_itself t)) in
+    let rest = below-keys keys ts (λ u there. held u (rw there (or_true (bytes_eq t u)))) in
+    rw (here, rest)
+
+below-rows : (keys kinds : List (List ℕ)) (assets : List PlainAsset) → ((t : List ℕ) → list_any (λ u. bytes_eq u t) (flat_map (λ a. a.keys) assets) ≡ true → list_any (λ u. bytes_eq u t) keys ≡ true) → list_all (λ (a : AssetRow). list_all (λ (k : KeyNo). nat_lt k.0 (length keys)) a.keys) (map (numbered keys kinds) assets) ≡ true
+below-rows keys kinds [] held = refl
+below-rows keys kinds (a ∷ assets) held =
+    let here = below-keys keys a.keys (λ t there. held t (list_any-append (λ u. bytes_eq u t) a.keys (flat_map (λ a. a.keys) assets) ∙ rw there)) in
+    let rest = below-rows keys kinds assets (λ t there. held t (list_any-append (λ u. bytes_eq u t) a.keys (flat_map (λ a. a.keys) assets) ∙ rw there (or_true (list_any (λ u. bytes_eq u t) a.keys)))) in
+    rw (here, rest)
+
+pub keys_below : (r : Rows) → AreRows r → list_all (λ (a : AssetRow). list_all (λ (k : KeyNo). nat_lt k.0 (length r.keys)) a.keys) r.assets ≡ true
+unfolding rows_of
+keys_below r are =
+    let assets = map (written r) r.assets in
+    subst (λ (q : Rows). list_all (λ (a : AssetRow). list_all (λ (k : KeyNo). nat_lt k.0 (length q.keys)) a.keys) q.assets ≡ true) are.numbers (below-rows (keys_of assets) (kinds_of assets) assets (λ t there. any-texts_once t (flat_map (λ a. a.keys) assets) ∙ there))
 
 pub few_kinds_of : (assets : List PlainAsset) → length (kinds_of assets) ≤ length assets
 few_kinds_of assets =

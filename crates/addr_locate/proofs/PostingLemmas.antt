@@ -1,21 +1,21 @@
 -- One row more in the lists of its keys; and the rows of a key that are of a kind.
-use Rattle.std.proofs.Common.{◌≡◌, ◌⊎◌, inl, inr, ℕ, ◌+◌, ◌≤◌, ◌<◌, zero, suc, Bool, true, false, ◌&&◌, ◌||◌, not, cond, eqb, List, [], ◌∷◌, ◌++◌, length, map, filter, take, drop, get_or, set, replicate, Option, Some, None, slice_get, refl, sym, ◌∙◌, ap, subst, arith, if◌then◌else◌}
-use Rattle.std.proofs.lemmas.Bool.{false≢true, and_parts, eqb-true, eq-eqb, ne_eqb, not-true, cases_eq, cases_Bool}
-use Rattle.std.proofs.lemmas.List.{take_more, length-replicate}
+use Rattle.std.proofs.Common.{◌≡◌, inl, inr, ℕ, ◌+◌, ◌≤◌, ◌<◌, zero, suc, Bool, true, false, ◌&&◌, ◌||◌, not, cond, eqb, List, [], ◌∷◌, ◌++◌, length, map, filter, take, get_or, replicate, Option, Some, None, slice_get, refl, sym, ◌∙◌, ap, subst, arith, nat_lt, unwrap_or}
+use Rattle.std.proofs.lemmas.Bool.{false≢true, and_parts, eqb-true, eq-eqb, ne_eqb, not-true, cases_eq}
+use borrow.Author.Tests.{ltb-true}
+use Rattle.std.proofs.lemmas.List.{length-replicate}
 use Rattle.std.specs.List.{list_any, list_all, count_by, enumerate_from}
 use Rattle.std.specs.Option.{option_map_or}
 use Rattle.addr_base.specs.declared.ids.KeyNo.{KeyNo}
 use Rattle.addr_base.specs.declared.ids.RowNo.{RowNo}
 use Rattle.addr_locate.specs.declared.rows.AssetRow.{AssetRow}
-use Rattle.addr_locate.specs.declared.rows.Kind.{Kind}
 use Rattle.std.specs.Str.{bytes_eq}
 use Rattle.addr_locate.specs.Rows.{Rows, AreRows, no_text_twice, text_at}
 use Rattle.addr_locate.proofs.TextLemmas.{text_is_itself}
-use Rattle.addr_locate.specs.Merge.{is_kind, has_key, is_match, rows_where}
+use Rattle.addr_locate.specs.Merge.{has_key, rows_where}
 use Rattle.addr_locate.proofs.FoundLemmas.{rows_where_put, rows_where_pass}
-use Rattle.addr_locate.specs.Changes.{change, change_each, times, changed_from, put_at}
-use Rattle.addr_locate.proofs.ChangeLemmas.{one_if, count-cons, length_change_each, change_each_at, was_there}
-use Rattle.addr_locate.specs.Postings.{no_key_twice, is_kind_at, ArePostings}
+use Rattle.addr_locate.specs.Changes.{change_each, times}
+use Rattle.addr_locate.proofs.ChangeLemmas.{one_if, count-cons, length_change_each, change_each_at, was_there, past_from}
+use Rattle.addr_locate.specs.Postings.{no_key_twice, ArePostings, ListsRows}
 
 times_once : (n : ℕ) (ks : List KeyNo) → no_key_twice ks ≡ true → count_by (λ k. eqb k n) (map (λ (k : KeyNo). k.0) ks) ≡ one_if (list_any (λ c. eqb c.0 n) ks)
 times_once n [] once = refl
@@ -67,7 +67,7 @@ postings_none count = record { many = length-replicate count []; each = λ key f
 
 -- of the rows that pass one test those that pass another
 module _ (all : List AssetRow) (p q : AssetRow → Bool) where
-  numbered_in : (n : ℕ) (rows : List AssetRow) → ((k : ℕ) → slice_get all (n + k) ≡ slice_get rows k)
+  pub numbered_in : (n : ℕ) (rows : List AssetRow) → ((k : ℕ) → slice_get all (n + k) ≡ slice_get rows k)
       → filter (λ (r : RowNo). option_map_or q (slice_get all r.0) false) (map (λ (x : ℕ × AssetRow). let r : RowNo = record { 0 = x.0 } in r) (filter (λ (x : ℕ × AssetRow). p x.1) (enumerate_from n rows))) ≡ map (λ (x : ℕ × AssetRow). let r : RowNo = record { 0 = x.0 } in r) (filter (λ (x : ℕ × AssetRow). p x.1 && q x.1) (enumerate_from n rows))
   numbered_in n [] at = refl
   numbered_in n (row ∷ rows) at = by (p row) (numbered_in (n + 1) rows (λ k. (let same : (n + 1) + k ≡ n + suc k = omega arith in ap (slice_get all) same) ∙ at (suc k)))
@@ -86,11 +86,6 @@ module _ (all : List AssetRow) (p q : AssetRow → Bool) where
           kept : (t : Bool) → cond t (let r : RowNo = record { 0 = n } in r ∷ filter (λ (r : RowNo). option_map_or q (slice_get all r.0) false) (map (λ (x : ℕ × AssetRow). let r : RowNo = record { 0 = x.0 } in r) (filter (λ (x : ℕ × AssetRow). p x.1) (enumerate_from (n + 1) rows)))) (filter (λ (r : RowNo). option_map_or q (slice_get all r.0) false) (map (λ (x : ℕ × AssetRow). let r : RowNo = record { 0 = x.0 } in r) (filter (λ (x : ℕ × AssetRow). p x.1) (enumerate_from (n + 1) rows)))) ≡ map (λ (x : ℕ × AssetRow). let r : RowNo = record { 0 = x.0 } in r) (cond t ((n, row) ∷ filter (λ (x : ℕ × AssetRow). p x.1 && q x.1) (enumerate_from (n + 1) rows)) (filter (λ (x : ℕ × AssetRow). p x.1 && q x.1) (enumerate_from (n + 1) rows)))
           kept true = ap (λ (l : List RowNo). let r : RowNo = record { 0 = n } in r ∷ l) rest
           kept false = rest
-
-pub posted_matches : (rows : List AssetRow) (count : ℕ) (postings : List (List RowNo)) → ArePostings rows count postings → (kind : Kind) (key : KeyNo) (listed : List RowNo) → slice_get postings key.0 ≡ Some listed → filter (is_kind_at kind rows) listed ≡ rows_where (is_match kind (Some key)) rows
-posted_matches rows count postings are kind key listed at =
-    ap (filter (is_kind_at kind rows)) (are.each key listed at)
-    ∙ numbered_in rows (has_key (Some key)) (is_kind kind) 0 rows (λ k. let same : 0 + k ≡ k = omega arith in ap (slice_get rows) same)
 
 -- keys whose texts stand once stand once
 pub texts_apart : (f : KeyNo → List ℕ) → ((a b : KeyNo) → eqb a.0 b.0 ≡ true → bytes_eq (f a) (f b) ≡ true) → (ks : List KeyNo) → no_text_twice (map f ks) ≡ true → no_key_twice ks ≡ true
@@ -127,8 +122,38 @@ rows_apart r are = all r.assets are.keys
         join : {s t : Bool} → s ≡ true → t ≡ true → (s && t) ≡ true
         join {s} {t} one two = ap (λ u. u && t) one ∙ two
 
-pub postings_all : (rows rows2 : List AssetRow) (count : ℕ) (postings postings2 : List (List RowNo)) → rows2 ≡ rows → postings2 ≡ postings → ArePostings rows count postings → ArePostings rows2 (length postings2) postings2
-postings_all rows rows2 count postings postings2 same_rows same are = subst (λ r. ArePostings r (length postings2) postings2) (sym same_rows) (subst (λ l. ArePostings rows (length l) l) (sym same) (record { many = refl; each = are.each }))
-
 pub postings_at : (rows rows2 : List AssetRow) (n m : ℕ) (postings : List (List RowNo)) → rows ≡ rows2 → n ≡ m → ArePostings rows n postings → ArePostings rows2 m postings
 postings_at rows rows2 n m postings a b are = subst (λ r. ArePostings r m postings) a (subst (λ k. ArePostings rows k postings) b are)
+
+-- no row has a key that is no key's number
+none_past : (count : ℕ) (key : KeyNo) (ks : List KeyNo) → count ≤ key.0 → list_all (λ (k : KeyNo). nat_lt k.0 count) ks ≡ true → list_any (λ (k : KeyNo). eqb k.0 key.0) ks ≡ false
+none_past count key [] past below = refl
+none_past count key (k ∷ ks) past below =
+    let parts = and_parts (nat_lt k.0 count) (list_all (λ (k : KeyNo). nat_lt k.0 count) ks) below in
+    let here : eqb k.0 key.0 ≡ false = ne_eqb k.0 key.0 (λ same. absurd (omega (arith, same, past, ltb-true k.0 count parts.0))) in
+    ap (λ t. t || list_any (λ (k : KeyNo). eqb k.0 key.0) ks) here ∙ none_past count key ks past parts.1
+
+rows_past : (count : ℕ) (key : KeyNo) (n : ℕ) (rows : List AssetRow) → count ≤ key.0 → list_all (λ (a : AssetRow). list_all (λ (k : KeyNo). nat_lt k.0 count) a.keys) rows ≡ true → filter (λ (x : ℕ × AssetRow). has_key (Some key) x.1) (enumerate_from n rows) ≡ []
+rows_past count key n [] past below = refl
+rows_past count key n (row ∷ rows) past below =
+    let parts = and_parts (list_all (λ (k : KeyNo). nat_lt k.0 count) row.keys) (list_all (λ (a : AssetRow). list_all (λ (k : KeyNo). nat_lt k.0 count) a.keys) rows) below in
+    let rest = filter (λ (x : ℕ × AssetRow). has_key (Some key) x.1) (enumerate_from (n + 1) rows) in
+    ap (λ t. cond t ((n, row) ∷ rest) rest) (none_past count key row.keys past parts.0) ∙ rows_past count key (n + 1) rows past parts.1
+
+no_key_none : (n : ℕ) (rows : List AssetRow) → filter (λ (x : ℕ × AssetRow). has_key None x.1) (enumerate_from n rows) ≡ []
+no_key_none n [] = refl
+no_key_none n (row ∷ rows) = no_key_none (n + 1) rows
+
+-- the lists that were made have each key's rows, whatever the key
+pub lists_rows : (rows : List AssetRow) (count : ℕ) (postings : List (List RowNo)) → ArePostings rows count postings → list_all (λ (a : AssetRow). list_all (λ (k : KeyNo). nat_lt k.0 count) a.keys) rows ≡ true → ListsRows rows postings
+lists_rows rows count postings are below None = sym (ap (map (λ (x : ℕ × AssetRow). let r : RowNo = record { 0 = x.0 } in r)) (no_key_none 0 rows))
+lists_rows rows count postings are below (Some key) = by (slice_get postings key.0) refl
+  where
+    by : (o : Option (List RowNo)) → slice_get postings key.0 ≡ o → unwrap_or o [] ≡ rows_where (has_key (Some key)) rows
+    by (Some found) at = are.each key found at
+    by None at =
+        let past : count ≤ key.0 = omega (arith, are.many, past_from postings key.0 at) in
+        sym (ap (map (λ (x : ℕ × AssetRow). let r : RowNo = record { 0 = x.0 } in r)) (rows_past count key 0 rows past below))
+
+pub lists_same : (rows rows2 : List AssetRow) (postings postings2 : List (List RowNo)) → rows2 ≡ rows → postings2 ≡ postings → ListsRows rows postings → ListsRows rows2 postings2
+lists_same rows rows2 postings postings2 same_rows same lists = subst (λ r. ListsRows r postings2) (sym same_rows) (subst (λ l. ListsRows rows l) (sym same) lists)

@@ -47,7 +47,7 @@ length-texts_once-le [] = omega arith
 length-texts_once-le (t ∷ ts) = let shorter = length-filter-le (λ u. not (bytes_eq u t)) (texts_once ts) in let rest = length-texts_once-le ts in omega arith
 
 -- a text has a place exactly where it is there
-place-within : {X : Type 0} (p : X → Bool) (xs : List X) → nat_lt (position_or_len p xs) (length xs) ≡ list_any p xs
+pub place-within : {X : Type 0} (p : X → Bool) (xs : List X) → nat_lt (position_or_len p xs) (length xs) ≡ list_any p xs
 place-within p [] = refl
 place-within p (x ∷ xs) = by_test (p x) refl (place-within p xs)
   where

@@ -1,18 +1,20 @@
-// What keys lead to. One walk over the rows a key; the rows of several keys are found by one test on each row.
-ghost use Rattle.std.specs.Prelude.{◌≡◌, ◌==◌, ◌<◌, ◌^◌, ◌++◌, ◌∷◌, [], ◌&&◌, not, List, map, length, IfOk, OnOk};
-ghost use Rattle.std.specs.List.{list_any, list_all};
+// What keys lead to. Each key's rows are listed beside the catalogue; no call walks over rows that have none of the keys.
+ghost use Rattle.std.specs.Prelude.{◌≡◌, ◌==◌, ◌<◌, ◌^◌, ◌++◌, ◌∷◌, [], ◌&&◌, not, true, false, Bool, Option, List, map, filter, length, slice_get, IfOk, OnOk};
+ghost use Rattle.std.specs.List.{list_any, list_all, flat_map};
+ghost use Rattle.std.specs.Option.{option_map_or};
 ghost use Rattle.addr_locate.specs.Lookups.{AreFound};
-ghost use Rattle.addr_locate.specs.Postings.{ArePostings};
+ghost use Rattle.addr_locate.specs.Postings.{ListsRows, has_each, is_kind_at, numbers_of_key};
 ghost use Rattle.addr_locate.specs.Merge.{is_kind, has_key, is_match, has_none, rows_where, first_filled, merged, deps_of_row, deps_of};
 ghost use Rattle.addr_base.specs.declared.ids.BundleNo.{BundleNo};
+ghost use Rattle.addr_base.specs.declared.ids.KeyNo.{KeyNo};
 
-use crate::postings::posted;
+use crate::postings::rows_of_key;
 use crate::rows::{AssetRow, Kind, Merge};
 use addr_base::{BundleNo, Items, KeyNo, NoMemory, RowNo};
 use std::alloc::Global;
 use std::collections::BTreeSet;
 
-pub(crate) fn is_kind(kind: Kind, row: &AssetRow) -> bool
+fn is_kind(kind: Kind, row: &AssetRow) -> bool
     ensures { result ≡ is_kind kind row.now }
 {
     match kind {
@@ -44,70 +46,131 @@ pub fn is_match(kind: Kind, key: Option<KeyNo>, row: &AssetRow) -> bool
     has_key(key, row) && is_kind(kind, row)
 }
 
-/// The rows that have the key and are of the asked kind. A key that isn't in the catalogue takes no walk.
+fn is_kind_at(kind: Kind, rows: &[AssetRow], row: RowNo) -> bool
+    ensures { result ≡ is_kind_at kind rows.now row }
+{
+    match rows.get(row.0 as usize) {
+        Some(row) => is_kind(kind, row),
+        None => false,
+    }
+}
+
+/// The rows that have the key and are of the asked kind.
 fn matching(
     alloc: Global,
     rows: &[AssetRow],
+    postings: &[Items<RowNo>],
     kind: Kind,
     key: Option<KeyNo>,
 ) -> Result<Items<RowNo>, NoMemory>
-    requires { length rows.now < 2 ^ 32 }
+    requires { ListsRows rows.now postings.now }
     ensures { IfOk result (λ found. found ≡ rows_where (is_match kind key) rows.now) }
 {
     let mut found = Items::new(alloc);
-    if key.is_none() {
-        return Ok(found);
-    }
-    for (i, row) in rows.iter().enumerate() {
-        if is_match(kind, key, row) {
-            found.push(RowNo(i as u32))?;
+    let listed = rows_of_key(postings, key);
+    for row in listed {
+        if is_kind_at(kind, rows, *row) {
+            found.push(*row)?;
         }
     }
     Ok(found)
 }
 
-/// The rows that have some key and are of the asked kind.
+/// The rows of the first key that has any of the asked kind.
+fn matching_first(
+    alloc: Global,
+    rows: &[AssetRow],
+    postings: &[Items<RowNo>],
+    kind: Kind,
+    keys: &[Option<KeyNo>],
+) -> Result<Items<RowNo>, NoMemory>
+    requires { ListsRows rows.now postings.now }
+    ensures { IfOk result (λ found. found ≡ first_filled (map (λ key. rows_where (is_match kind key) rows.now) keys.now)) }
+{
+    for key in keys {
+        let found = matching(alloc, rows, postings, kind, *key)?;
+        if !found.is_empty() {
+            return Ok(found);
+        }
+    }
+    Ok(Items::new(alloc))
+}
+
+/// Appends the numbers of those rows that are of the asked kind.
+fn add_numbers(
+    numbers: &mut Vec<u32>,
+    rows: &[AssetRow],
+    kind: Kind,
+    listed: &[RowNo],
+) -> Result<(), NoMemory>
+    ensures { OnOk result (numbers.new.items ≡ numbers.old.items ++ map (λ r. r.0) (filter (is_kind_at kind rows.now) listed.now)) }
+{
+    for row in listed {
+        if is_kind_at(kind, rows, *row) {
+            numbers.push(row.0)?;
+        }
+    }
+    Ok(())
+}
+
+/// The numbers of the rows of each key that are of the asked kind, one key behind the other.
+fn numbers_of(
+    alloc: Global,
+    rows: &[AssetRow],
+    postings: &[Items<RowNo>],
+    kind: Kind,
+    keys: &[Option<KeyNo>],
+) -> Result<Vec<u32>, NoMemory>
+    ensures { IfOk result (λ numbers. numbers.items ≡ flat_map (numbers_of_key kind rows.now postings.now) keys.now) }
+{
+    let mut numbers = Vec::new(alloc);
+    for key in keys {
+        add_numbers(&mut numbers, rows, kind, rows_of_key(postings, *key))?;
+    }
+    Ok(numbers)
+}
+
+fn rows_numbered(alloc: Global, numbers: &[u32]) -> Result<Items<RowNo>, NoMemory>
+    ensures { IfOk result (λ rows. rows ≡ map (λ n. record { 0 = n }) numbers.now) }
+{
+    let mut rows = Items::new(alloc);
+    for number in numbers {
+        rows.push(RowNo(*number))?;
+    }
+    Ok(rows)
+}
+
+/// The rows that have some key and are of the asked kind: the rows of all keys, put in order, each once.
 fn matching_some(
     alloc: Global,
     rows: &[AssetRow],
+    postings: &[Items<RowNo>],
     kind: Kind,
     keys: &[Option<KeyNo>],
 ) -> Result<Items<RowNo>, NoMemory>
-    requires { length rows.now < 2 ^ 32 }
+    requires { ListsRows rows.now postings.now }
     ensures { IfOk result (λ found. found ≡ rows_where (λ row. list_any (λ key. is_match kind key row) keys.now) rows.now) }
 {
-    let mut found = Items::new(alloc);
-    for (i, row) in rows.iter().enumerate() {
-        if has_some(kind, keys, row) {
-            found.push(RowNo(i as u32))?;
-        }
-    }
-    Ok(found)
+    let mut numbers = numbers_of(alloc, rows, postings, kind, keys)?;
+    numbers.sort_unstable();
+    numbers.dedup();
+    rows_numbered(alloc, numbers.as_slice())
 }
 
-/// The rows that have every key, of some keys, and are of the asked kind.
-fn matching_each(
-    alloc: Global,
-    rows: &[AssetRow],
-    kind: Kind,
-    keys: &[Option<KeyNo>],
-) -> Result<Items<RowNo>, NoMemory>
-    requires { length rows.now < 2 ^ 32 }
-    ensures { IfOk result (λ found. found ≡ rows_where (λ row. not (has_none keys.now) && list_all (λ key. is_match kind key row) keys.now) rows.now) }
+/// A key of the fewest rows: what holds of every key holds of it. `None` where there is no key.
+fn rarest(postings: &[Items<RowNo>], keys: &[Option<KeyNo>]) -> Option<KeyNo>
+    ensures { (p : Option KeyNo → Bool) → has_none keys.now ≡ false → list_all p keys.now ≡ true → p result ≡ true }
 {
-    let mut found = Items::new(alloc);
-    for (i, row) in rows.iter().enumerate() {
-        if has_each(kind, keys, row) {
-            found.push(RowNo(i as u32))?;
+    let Some((first, others)) = keys.split_first() else {
+        return None;
+    };
+    let mut rarest = *first;
+    for key in others {
+        if rows_of_key(postings, *key).len() < rows_of_key(postings, rarest).len() {
+            rarest = *key;
         }
     }
-    Ok(found)
-}
-
-fn has_some(kind: Kind, keys: &[Option<KeyNo>], row: &AssetRow) -> bool
-    ensures { result ≡ list_any (λ key. is_match kind key row.now) keys.now }
-{
-    keys.iter().any(|key| is_match(kind, *key, row))
+    rarest
 }
 
 fn has_each(kind: Kind, keys: &[Option<KeyNo>], row: &AssetRow) -> bool
@@ -122,47 +185,34 @@ fn matches_all(kind: Kind, keys: &[Option<KeyNo>], row: &AssetRow) -> bool
     keys.iter().all(|key| is_match(kind, *key, row))
 }
 
-/// The rows that have the key and are of the asked kind, by the key's list where it has one.
-fn listed(
-    alloc: Global,
-    rows: &[AssetRow],
-    postings: &[Items<RowNo>],
-    kind: Kind,
-    key: Option<KeyNo>,
-) -> Result<Items<RowNo>, NoMemory>
-    requires few { length rows.now < 2 ^ 32 }
-    requires postings { ArePostings rows.now (length postings.now) postings.now }
-    ensures { IfOk result (λ found. found ≡ rows_where (is_match kind key) rows.now) }
+fn has_each_at(kind: Kind, keys: &[Option<KeyNo>], rows: &[AssetRow], row: RowNo) -> bool
+    ensures { result ≡ option_map_or (has_each kind keys.now) (slice_get rows.now row.0) false }
 {
-    match key {
-        Some(known) => if (known.0 as usize) < postings.len() {
-            posted(alloc, rows, postings, kind, known)
-        } else {
-            matching(alloc, rows, kind, key)
-        },
-        None => Ok(Items::new(alloc)),
+    match rows.get(row.0 as usize) {
+        Some(row) => has_each(kind, keys, row),
+        None => false,
     }
 }
 
-/// The rows of the first key that has any of the asked kind.
-fn matching_first(
+/// The rows that have every key, of some keys, and are of the asked kind: those of a key of the fewest rows that have the others too.
+fn matching_each(
     alloc: Global,
     rows: &[AssetRow],
     postings: &[Items<RowNo>],
     kind: Kind,
     keys: &[Option<KeyNo>],
 ) -> Result<Items<RowNo>, NoMemory>
-    requires few { length rows.now < 2 ^ 32 }
-    requires postings { ArePostings rows.now (length postings.now) postings.now }
-    ensures { IfOk result (λ found. found ≡ first_filled (map (λ key. rows_where (is_match kind key) rows.now) keys.now)) }
+    requires { ListsRows rows.now postings.now }
+    ensures { IfOk result (λ found. found ≡ rows_where (has_each kind keys.now) rows.now) }
 {
-    for key in keys {
-        let found = listed(alloc, rows, postings, kind, *key)?;
-        if !found.is_empty() {
-            return Ok(found);
+    let mut found = Items::new(alloc);
+    let listed = rows_of_key(postings, rarest(postings, keys));
+    for row in listed {
+        if has_each_at(kind, keys, rows, *row) {
+            found.push(*row)?;
         }
     }
-    Ok(Items::new(alloc))
+    Ok(found)
 }
 
 /// The rows that the keys lead to, in the order of the catalogue.
@@ -175,14 +225,13 @@ pub(crate) fn merge_rows(
     mode: Merge,
     kind: Kind,
 ) -> Result<Items<RowNo>, NoMemory>
-    requires few { length rows.now < 2 ^ 32 }
-    requires postings { ArePostings rows.now (length postings.now) postings.now }
+    requires { ListsRows rows.now postings.now }
     ensures { IfOk result (λ found. found ≡ merged rows.now keys.now mode kind) }
 {
     match mode {
         Merge::UseFirst => matching_first(alloc, rows, postings, kind, keys),
-        Merge::Union => matching_some(alloc, rows, kind, keys),
-        Merge::Intersection => matching_each(alloc, rows, kind, keys),
+        Merge::Union => matching_some(alloc, rows, postings, kind, keys),
+        Merge::Intersection => matching_each(alloc, rows, postings, kind, keys),
     }
 }
 

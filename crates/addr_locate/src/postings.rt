@@ -1,12 +1,10 @@
 // For each key the rows that have it, in the order of the rows.
-ghost use Rattle.std.specs.Prelude.{◌≡◌, ◌<◌, ◌^◌, ◌++◌, ◌∷◌, [], ◌&&◌, true, map, length, slice_get, replicate, filter, Some, IfOk, OnOk, IfSome};
+ghost use Rattle.std.specs.Prelude.{◌≡◌, ◌<◌, ◌^◌, ◌++◌, ◌∷◌, [], true, map, length, replicate, Some, IfOk, OnOk};
 ghost use Rattle.std.specs.List.{list_all};
-ghost use Rattle.addr_locate.specs.Merge.{is_match, rows_where};
 ghost use Rattle.addr_locate.specs.Changes.{change, change_each};
-ghost use Rattle.addr_locate.specs.Postings.{no_key_twice, ArePostings, is_kind_at};
+ghost use Rattle.addr_locate.specs.Postings.{no_key_twice, ArePostings, listed};
 
-use crate::merging::is_kind;
-use crate::rows::{AssetRow, Kind};
+use crate::rows::AssetRow;
 use addr_base::{Items, KeyNo, NoMemory, RowNo};
 use std::alloc::Global;
 
@@ -60,45 +58,21 @@ pub(crate) fn postings_of(
     Ok(postings)
 }
 
-fn is_kind_at(kind: Kind, rows: &[AssetRow], row: RowNo) -> bool
-    ensures { result ≡ is_kind_at kind rows.now row }
+/// The rows that are listed for the key.
+pub(crate) fn rows_of_key(postings: &[Items<RowNo>], key: Option<KeyNo>) -> &[RowNo]
+    ensures { result.now ≡ listed postings.now key }
 {
-    match rows.get(row.0 as usize) {
-        Some(row) => is_kind(kind, row),
-        None => false,
+    match key {
+        None => &[],
+        Some(known) => rows_at(postings, known),
     }
 }
 
-/// The rows that have a key below the number and are of the asked kind.
-pub(crate) fn posted(
-    alloc: Global,
-    rows: &[AssetRow],
-    postings: &[Items<RowNo>],
-    kind: Kind,
-    key: KeyNo,
-) -> Result<Items<RowNo>, NoMemory>
-    requires postings { ArePostings rows.now (length postings.now) postings.now }
-    requires within { key.0 < length postings.now }
-    ensures { IfOk result (λ found. found ≡ rows_where (is_match kind (Some key)) rows.now) }
+fn rows_at(postings: &[Items<RowNo>], key: KeyNo) -> &[RowNo]
+    ensures { result.now ≡ listed postings.now (Some key) }
 {
-    let listed = postings[key.0 as usize].as_slice();
-    let found = of_kind(alloc, rows, listed, kind)?;
-    Ok(found)
-}
-
-fn of_kind(
-    alloc: Global,
-    rows: &[AssetRow],
-    listed: &[RowNo],
-    kind: Kind,
-) -> Result<Items<RowNo>, NoMemory>
-    ensures { IfOk result (λ found. found ≡ filter (is_kind_at kind rows.now) listed.now) }
-{
-    let mut found = Items::new(alloc);
-    for row in listed {
-        if is_kind_at(kind, rows, *row) {
-            found.push(*row)?;
-        }
+    match postings.get(key.0 as usize) {
+        None => &[],
+        Some(rows) => rows.as_slice(),
     }
-    Ok(found)
 }

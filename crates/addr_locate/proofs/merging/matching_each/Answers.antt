@@ -1,13 +1,15 @@
-use Rattle.std.proofs.Common.{◌∙◌, ◌&&◌, not, sym}
-use Rattle.std.specs.List.{list_all}
-use Rattle.addr_locate.specs.Merge.{is_match, has_none}
-use Rattle.addr_locate.proofs.FoundLemmas.{rows_where_put, rows_where_pass}
+use Rattle.std.proofs.Common.{◌≡◌, ◌∙◌, ap, filter, take, slice_get, false}
+use Rattle.std.proofs.lemmas.List.{take_all}
+use Rattle.std.specs.Option.{option_map_or}
+use Rattle.addr_base.specs.declared.ids.RowNo.{RowNo}
+use Rattle.addr_locate.specs.Postings.{has_each}
+use Rattle.addr_locate.proofs.MergeLemmas.{each_rows}
 use Rattle.addr_locate.proofs.merging.matching_each.Goals as goal
-use Rattle.addr_locate.proofs.merging.matching_each.Goals.{then-has_each+in_ok-push, else-has_each}
 
-pub loop-i-preserved : goal.loop-i-preserved
-loop-i-preserved c =
-    elim c.if-has_each.branch [
-      | then-has_each+in_ok-push w ↦ w.found-is ∙ (w.in_ok-push.ensures.ok ∙ rows_where_put (λ row. not (has_none c.args.keys.now) && list_all (λ key. is_match c.args.kind key row) c.args.keys.now) c.args.rows.now c.loop-i.i c.index-rows-i.result c.loop-i.found c.loop-i-test.true c.index-rows-i.is (sym c.has_each.ensures ∙ w.if-has_each.true) c.loop-i.invariant)
-      | else-has_each w ↦ w.found-is ∙ rows_where_pass (λ row. not (has_none c.args.keys.now) && list_all (λ key. is_match c.args.kind key row) c.args.keys.now) c.args.rows.now c.loop-i.i c.index-rows-i.result c.loop-i.found c.loop-i-test.true c.index-rows-i.is (sym c.has_each.ensures ∙ w.if-has_each.false) c.loop-i.invariant
-    ]
+pub returns : goal.returns
+returns c =
+    let listed = c.rows_of_key-listed.result.now in
+    let whole : take c.loop-row.row-index listed ≡ listed = take_all c.loop-row.row-index listed c.loop-row-test.false in
+    c.loop-row.invariant
+    ∙ ap (filter (λ (r : RowNo). option_map_or (has_each c.args.kind c.args.keys.now) (slice_get c.args.rows.now r.0) false)) (whole ∙ c.rows_of_key-listed.ensures)
+    ∙ each_rows c.args.rows.now c.args.postings.now c.args.kind c.args.keys.now c.rarest.result c.requires c.rarest.ensures

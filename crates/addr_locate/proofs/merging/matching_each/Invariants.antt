@@ -1,7 +1,8 @@
-use Rattle.std.proofs.Common.{◌≡◌, ◌&&◌, not, take}
-use Rattle.std.specs.List.{list_all}
-use Rattle.addr_locate.specs.Merge.{is_match, has_none, rows_where}
+use Rattle.std.proofs.Common.{◌≡◌, take, filter, slice_get, false}
+use Rattle.std.specs.Option.{option_map_or}
+use Rattle.addr_base.specs.declared.ids.RowNo.{RowNo}
+use Rattle.addr_locate.specs.Postings.{has_each}
 use Rattle.addr_locate.proofs.merging.matching_each.Given as goal
 
-abbrev pub invariant-loop-i : goal.invariant-loop-i
-invariant-loop-i l = l.found ≡ rows_where (λ row. not (has_none l.keys) && list_all (λ key. is_match l.kind key row) l.keys) (take l.i l.rows)
+abbrev pub invariant-loop-row : goal.invariant-loop-row
+invariant-loop-row l = l.found ≡ filter (λ (r : RowNo). option_map_or (has_each l.kind l.keys) (slice_get l.rows r.0) false) (take l.row-index l.listed)

@@ -1,13 +1,18 @@
-use Rattle.std.proofs.Common.{◌∙◌, sym}
-use Rattle.std.specs.List.{list_any}
-use Rattle.addr_locate.specs.Merge.{is_match}
-use Rattle.addr_locate.proofs.FoundLemmas.{rows_where_put, rows_where_pass}
+use Rattle.std.proofs.Common.{◌∙◌, ap, map}
+use Rattle.std.proofs.lemmas.Result.{IfOk-weaker}
+use Rattle.std.proofs.lemmas.List.Filters.{dedup_is}
+use Rattle.std.proofs.lemmas.List.Kept.{Contains-dedup_nat, Contains-from_dedup}
+use Rattle.std.proofs.lemmas.List.Sorted.{Contains-permutation, IsPermutation-sym}
+use Rattle.std.proofs.lemmas.Map.Keys.{IsStrictlyIncreasing-dedup}
+use Rattle.addr_locate.proofs.MergeLemmas.{row_no, union_rows}
 use Rattle.addr_locate.proofs.merging.matching_some.Goals as goal
-use Rattle.addr_locate.proofs.merging.matching_some.Goals.{then-has_some+in_ok-push, else-has_some}
 
-pub loop-i-preserved : goal.loop-i-preserved
-loop-i-preserved c =
-    elim c.if-has_some.branch [
-      | then-has_some+in_ok-push w ↦ w.found-is ∙ (w.in_ok-push.ensures.ok ∙ rows_where_put (λ row. list_any (λ key. is_match c.args.kind key row) c.args.keys.now) c.args.rows.now c.loop-i.i c.index-rows-i.result c.loop-i.found c.loop-i-test.true c.index-rows-i.is (sym c.has_some.ensures ∙ w.if-has_some.true) c.loop-i.invariant)
-      | else-has_some w ↦ w.found-is ∙ rows_where_pass (λ row. list_any (λ key. is_match c.args.kind key row) c.args.keys.now) c.args.rows.now c.loop-i.i c.index-rows-i.result c.loop-i.found c.loop-i-test.true c.index-rows-i.is (sym c.has_some.ensures ∙ w.if-has_some.false) c.loop-i.invariant
-    ]
+pub returns : goal.returns
+returns c =
+    let is = dedup_is _ _ _ c.dedup.ensures.filtered in
+    let moved = c.sort_unstable.ensures.permutation in
+    let union = union_rows c.args.rows.now c.args.postings.now c.args.kind c.args.keys.now c.in_ok-numbers.numbers.items c.dedup.new.self.items c.requires c.in_ok-numbers.ensures
+    (rw is (IsStrictlyIncreasing-dedup _ c.sort_unstable.ensures.sorted))
+    (λ x there. rw is (Contains-dedup_nat _ x (Contains-permutation _ _ x moved there)))
+    (λ x there. Contains-permutation _ _ x (IsPermutation-sym _ _ moved) (Contains-from_dedup _ _ x (rw is at there))) in
+    IfOk-weaker c.rows_numbered.result _ _ (λ found made. made ∙ ap (map row_no) c.as_slice.ensures.value ∙ union) c.rows_numbered.ensures

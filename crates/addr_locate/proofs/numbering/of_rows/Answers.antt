@@ -4,9 +4,9 @@ use Rattle.std.proofs.lemmas.List.{length-map}
 use Rattle.addr_locate.specs.declared.rows.AssetRow.{AssetRow}
 use Rattle.addr_locate.specs.declared.rows.BundleRow.{BundleRow}
 use Rattle.addr_locate.specs.Postings.{no_key_twice}
-use Rattle.addr_locate.proofs.PostingLemmas.{postings_at, rows_apart}
+use Rattle.addr_locate.proofs.PostingLemmas.{postings_at, lists_rows, rows_apart}
 use Rattle.addr_locate.specs.Rows.{Rows, rows_of, AreRows, numbered, keys_of, kinds_of}
-use Rattle.addr_locate.proofs.NumberLemmas.{AreRows-rows_of, few_kinds_of, rows_of-made}
+use Rattle.addr_locate.proofs.NumberLemmas.{AreRows-rows_of, few_kinds_of, rows_of-made, keys_below}
 use Rattle.addr_locate.proofs.numbering.of_rows.Goals as goal
 
 of_names : (bundles : List BundleRow) (rows : List AssetRow) (keys keys2 kinds kinds2 : List (List ℕ)) → keys2 ≡ keys → kinds2 ≡ kinds → ◌≡◌ {A = Rows} (record { bundles = bundles; assets = rows; keys = keys2; kinds = kinds2 }) (record { bundles = bundles; assets = rows; keys = keys; kinds = kinds })
@@ -28,9 +28,11 @@ invariant_of-result c =
     let rows = rw (c.as_slice-3.ensures, c.as_slice-4.ensures) at made in
     let same = rows_of-made c.args.bundles.items c.from_vec-bundles.result items c.in_ok-assets.assets c.in_ok-keys.keys c.in_ok-kinds.kinds c.from_vec-bundles.ensures rows held_keys held_kinds in
     let whole = of_names c.from_vec-bundles.result c.in_ok-assets.assets c.in_ok-keys.keys c.in_ok-keys-2.keys c.in_ok-kinds.kinds c.in_ok-kinds-2.kinds c.in_ok-keys-2.ensures c.in_ok-kinds-2.ensures ∙ same in
+    let are = subst AreRows (sym whole) (AreRows-rows_of c.args.bundles.items items c.requires.few_bundles c.requires.few_assets c.requires.few_keys c.requires.deps c.requires.keys) in
+    let posted = postings_at c.as_slice-5.result.now c.in_ok-assets.assets c.len.result (length c.in_ok-keys-2.keys) c.in_ok-postings.postings.items c.as_slice-5.ensures (c.len.ensures ∙ ap length (sym c.in_ok-keys-2.ensures)) c.in_ok-postings.ensures in
     record {
-      are = subst AreRows (sym whole) (AreRows-rows_of c.args.bundles.items items c.requires.few_bundles c.requires.few_assets c.requires.few_keys c.requires.deps c.requires.keys);
-      posted = postings_at c.as_slice-5.result.now c.in_ok-assets.assets c.len.result (length c.in_ok-keys-2.keys) c.in_ok-postings.postings.items c.as_slice-5.ensures (c.len.ensures ∙ ap length (sym c.in_ok-keys-2.ensures)) c.in_ok-postings.ensures;
+      are = are;
+      posted = lists_rows c.in_ok-assets.assets (length c.in_ok-keys-2.keys) c.in_ok-postings.postings.items posted (keys_below (record { bundles = c.from_vec-bundles.result; assets = c.in_ok-assets.assets; keys = c.in_ok-keys-2.keys; kinds = c.in_ok-kinds-2.kinds }) are);
     }
 
 pub returns : goal.returns

@@ -2,7 +2,6 @@ use Rattle.std.proofs.Common.{◌≡◌, ◌∙◌, ◌+◌, ap, sym, subst, map
 use Rattle.std.proofs.lemmas.List.{with_items_is}
 use Rattle.std.specs.Vec.{with_items}
 use Rattle.addr_base.specs.declared.ids.KeyNo.{KeyNo}
-use Rattle.addr_base.specs.declared.ids.RowNo.{RowNo}
 use Rattle.addr_locate.specs.Changes.{change_each}
 use Rattle.addr_locate.specs.Postings.{ArePostings}
 use Rattle.addr_locate.proofs.PostingLemmas.{postings_more, with_row}

@@ -4,7 +4,7 @@ use Rattle.std.proofs.lemmas.Result.{IfOk-weaker}
 use Rattle.addr_locate.specs.Merge.{merged}
 use Rattle.addr_locate.specs.Rows.{Rows}
 use Rattle.addr_base.specs.declared.ids.RowNo.{RowNo}
-use Rattle.addr_locate.proofs.PostingLemmas.{postings_all}
+use Rattle.addr_locate.proofs.PostingLemmas.{lists_same}
 use Rattle.addr_locate.proofs.FoundLemmas.{merged-within}
 use Rattle.addr_locate.proofs.locator.Locator.locate.Goals as goal
 
@@ -14,5 +14,5 @@ returns-clause-within c =
     let same : c.as_slice.result.now ≡ rows = c.as_slice.ensures ∙ ap (λ (r : Rows). r.assets) c.self.view_is in
     IfOk-weaker c.merge_rows.result (λ found. found ≡ merged rows c.args.keys.now c.args.mode c.args.kind) _ (λ found is. ap (list_all (λ (r : RowNo). nat_lt r.0 (length rows))) is ∙ merged-within rows c.args.keys.now c.args.mode c.args.kind) (rw same at c.merge_rows.ensures)
 
-pub merge_rows-requires-clause-postings : goal.merge_rows-requires-clause-postings
-merge_rows-requires-clause-postings c = postings_all c.self.inside.assets c.as_slice.result.now (length c.self.inside.keys) c.self.inside.postings.items c.as_slice-2.result.now c.as_slice.ensures c.as_slice-2.ensures.value c.self.invariant.posted
+pub merge_rows-requires : goal.merge_rows-requires
+merge_rows-requires c = lists_same c.self.inside.assets c.as_slice.result.now c.self.inside.postings.items c.as_slice-2.result.now c.as_slice.ensures c.as_slice-2.ensures.value c.self.invariant.posted
