@@ -1,4 +1,5 @@
 pub mod AnswerLemmas
+pub mod BoundLemmas
 pub mod CircleLemmas
 pub mod DocumentLemmas
 pub mod KeptLemmas
