@@ -21,7 +21,7 @@ use Rattle.addr_expansion.specs.Expansion.{Outcome, bad, circular, given, expand
 use Rattle.addr_expansion.specs.Replies.{replies}
 use Rattle.addr_project.specs.Faults.{count_fault, key_fault, link_fault, text_fault, file_fault, guids_of, entry_guids, names_of, is_reserved, lacks_group, lacks_ref, lacks_asset}
 use Rattle.addr_project_rows.specs.Firsts.{first_repeat, is_among}
-use Rattle.addr_project.specs.Kept.{IsKept, IsKeptEntry, asset_guids}
+use Rattle.addr_project.specs.Kept.{HasTexts, IsKept, IsKeptEntry, IsText, asset_guids}
 use Rattle.addr_project.specs.Model.{Project}
 use Rattle.addr_project.specs.Reading.{entry_from, place, text_given}
 use Rattle.addr_project.specs.declared.model.Group.{Group}
@@ -29,7 +29,8 @@ use Rattle.addr_base.specs.declared.var.Var.{Var}
 use Rattle.addr_walks.specs.Once.{AreOnce}
 use Rattle.addr_project.proofs.OnceLemmas.{none-parts, once_from, known_at, known_place, from_map, to_map, get_contained, contained_get, any_fails}
 use Rattle.addr_expansion.proofs.ReplyLemmas.{position-map}
-use Rattle.addr_project.proofs.TreeLemmas.{AreGoodRows}
+use Rattle.addr_project.proofs.TreeLemmas.{AreGoodRows, AreSpelled, version_text}
+use Rattle.addr_project.proofs.BoundLemmas.{bounded}
 
 map-none : {A B : Type 0} (f : A → B) (o : Option A) → option_map f o ≡ None → o ≡ None
 map-none f None is = refl
@@ -133,6 +134,10 @@ refs_known assets known a r asset ref =
     let (b, there, same) = from_map (λ (a : Asset). a.guid.0) assets (place (asset_guids assets) r.0) r.0 (known_at (asset_guids assets) r.0 found) in
     (b, contained_get assets (place (asset_guids assets) r.0) b there, λ i. record { 0 = same i })
 
+spelled : (guids names : List (List ℕ)) (es : List EntryRow) → AllByRecursion (λ e. AreSpelled e.address e.labels) es → AllByRecursion (λ e. HasTexts (entry_from guids names e)) es
+spelled guids names [] all = tt
+spelled guids names (e ∷ es) (first, rest) = (record { address = first.address_is; labels = first.labels_are }, spelled guids names es rest)
+
 pub kept_from : (f : ProjectFile) (assets : List Asset) (local remote : List ℕ) → file_fault f ≡ None → AreGoodRows f → KeepsRows f.assets assets
     → expanded f.variables f.local ≡ Ok local → expanded f.variables f.remote ≡ Ok remote
     → IsKept (record { version = f.version; local = local; remote = remote; variables = f.variables; groups = f.groups; assets = assets; entries = entries_of f })
@@ -156,6 +161,8 @@ kept_from f assets local remote none good kept local_is remote_is =
     ∙ (λ i. position (lacks_ref (kept.guids i)) (kept.refs i))
     ∙ position-map (lacks_ref (guids_of f.assets)) (λ (a : AssetRow). a.refs) f.assets
     ∙ map-none _ _ known.0 in
+    let counts : count_fault f.variables f.groups (map (λ (a : Asset). a.refs) assets) (map (λ (e : Entry). e.labels) (entries_of f)) ≡ None =
+    (λ i. count_fault f.variables f.groups (kept.refs i) (labels-same (guids_of f.assets) (names_of f.groups) f.entries i)) ∙ tests.0 in
     record {
       guids = all_unmap Are16Bytes (λ (a : Asset). a.guid.0) assets (subst (AllByRecursion Are16Bytes) (sym kept.guids) (all_map Are16Bytes (λ (a : AssetRow). a.guid.0) f.assets good.guids));
       assets_once = once_from (asset_guids assets) (ap first_repeat kept.guids ∙ map-none _ _ guids_once.0);
@@ -166,10 +173,18 @@ kept_from f assets local remote none good kept local_is remote_is =
       groups_once = once_from (names_of f.groups) (map-none _ _ names_once.0);
       none_reserved = none_passes is_reserved f.groups (map-none _ _ free.0);
       variables_once = good.variables;
-      counts = (λ i. count_fault f.variables f.groups (kept.refs i) (labels-same (guids_of f.assets) (names_of f.groups) f.entries i)) ∙ tests.0;
+      counts = counts;
       sizes = kept.sizes;
       local = short_expanded f.variables f.local local local_is;
       remote = short_expanded f.variables f.remote remote remote_is;
       values = (λ i. text_fault (sym local_is i) (sym remote_is i) (replies f.variables)) ∙ texts.0;
       version = good.version;
+      texts = record {
+        version = version_text f.version good.version;
+        variables = good.names;
+        groups = good.groups;
+        assets = all_unmap IsText (λ (a : Asset). a.kind) assets (subst (AllByRecursion IsText) (sym kept.kinds) (all_map IsText (λ (a : AssetRow). a.kind) f.assets good.kinds));
+        entries = all_map HasTexts (entry_from (guids_of f.assets) (names_of f.groups)) f.entries (spelled (guids_of f.assets) (names_of f.groups) f.entries good.texts);
+      };
+      bounds = bounded p counts kept.sizes;
     }

@@ -1,11 +1,15 @@
 pub mod AnswerLemmas
+pub mod BoundLemmas
 pub mod CircleLemmas
 pub mod DocumentLemmas
 pub mod KeptLemmas
+pub mod KeyLemmas
 pub mod LoadLemmas
 pub mod NeverLemmas
 pub mod OnceLemmas
 pub mod ReadLemmas
 pub mod SeenLemmas
+pub mod ShownLemmas
 pub mod TextLemmas
 pub mod TreeLemmas
+pub mod WalkLemmas

@@ -12,9 +12,10 @@ use Rattle.addr_project.specs.declared.limit.Limit.TheVariants as limit
 use Rattle.addr_project.specs.declared.model.Asset.{Asset}
 use Rattle.addr_project.specs.declared.rows.AssetRow.{AssetRow}
 use Rattle.addr_project.specs.AssetFiles.{contents, assets_of, KeepsRows}
-use Rattle.addr_project.specs.Faults.{guids_of, over}
+use Rattle.addr_project.specs.Faults.{guids_of, passes}
 use Rattle.addr_project_rows.specs.Firsts.{first_from, first_where, number_if}
 use Rattle.addr_project.specs.Kept.{asset_guids}
+use Rattle.addr_project.specs.Limits.{most}
 use Rattle.addr_project.specs.Loading.{Adds}
 use Rattle.addr_project.specs.Reading.{bytes_of, asset_fault, asset_from, size_answer, size_fault, length_of, over_after}
 use Rattle.addr_project_rows.proofs.FirstLemmas.{first_from-append, first_from-one, first_from-none, first_where-pass, first_where-found}
@@ -46,6 +47,7 @@ pub record Told (files : List MemFile) (folder : List ℕ) (rows : List AssetRow
 
 pub record Anyhow (rows : List AssetRow) (i : ℕ) (loaded : Loaded) : Type 0 where
   pub guids : asset_guids loaded.assets ≡ take i (guids_of rows)
+  pub kinds : map (λ a. a.kind) loaded.assets ≡ take i (map (λ row. row.kind) rows)
   pub refs : map (λ a. a.refs) loaded.assets ≡ take i (map (λ row. row.refs) rows)
   pub sizes : size_fault (asset_lengths loaded.assets) ≡ None
   pub total : loaded.total ≡ sum (asset_lengths loaded.assets)
@@ -125,6 +127,7 @@ module _ (rows : List AssetRow) where
   pub anyhow-none : (loaded : Loaded) → loaded.assets ≡ [] → loaded.total ≡ 0 → Anyhow rows 0 loaded
   anyhow-none loaded assets total = record {
     guids = ap asset_guids assets;
+    kinds = ap (map (λ (a : Asset). a.kind)) assets;
     refs = ap (map (λ (a : Asset). a.refs)) assets;
     sizes = ap (λ some. size_fault (asset_lengths some)) assets ∙ first_from-none size_answer;
     total = total ∙ sym (ap (λ some. sum (asset_lengths some)) assets);
@@ -142,6 +145,11 @@ module _ (rows : List AssetRow) where
             ∙ map-append (λ (a : Asset). a.guid.0) old.assets (asset ∷ [])
             ∙ ap (λ gs. gs ++ row.guid.0 ∷ []) before.guids
             ∙ sym (map-more (λ (r : AssetRow). r.guid.0) rows i row small at);
+        kinds =
+            ap (map (λ (a : Asset). a.kind)) (adds.1 none).0
+            ∙ map-append (λ (a : Asset). a.kind) old.assets (asset ∷ [])
+            ∙ ap (λ ks. ks ++ row.kind ∷ []) before.kinds
+            ∙ sym (map-more (λ (r : AssetRow). r.kind) rows i row small at);
         refs =
             ap (map (λ (a : Asset). a.refs)) (adds.1 none).0
             ∙ map-append (λ (a : Asset). a.refs) old.assets (asset ∷ [])
@@ -163,6 +171,7 @@ module _ (rows : List AssetRow) where
   pub anyhow-all : (i : ℕ) (loaded : Loaded) → Anyhow rows i loaded → length rows ≤ i → KeepsRows rows loaded.assets
   anyhow-all i loaded kept past = record {
     guids = kept.guids ∙ take_all i (guids_of rows) (rw (length-map rows (λ (r : AssetRow). r.guid.0)) past);
+    kinds = kept.kinds ∙ take_all i (map (λ (r : AssetRow). r.kind) rows) (rw (length-map rows (λ (r : AssetRow). r.kind)) past);
     refs = kept.refs ∙ take_all i (map (λ (r : AssetRow). r.refs) rows) (rw (length-map rows (λ (r : AssetRow). r.refs)) past);
     sizes = kept.sizes;
   }
@@ -195,7 +204,7 @@ never-more old new row bytes adds never same = by_over old.over refl
   where
     by_over : (o : Option ProjectErr) → old.over ≡ o → ⊥
     by_over None none =
-        over-is-limit (length bytes) 67108864 (nat_lt 67108864 (length bytes)) limit.AssetBytes refl (over limit.AllBytes 268435456 (old.total + length bytes))
-        (all-is-limit (old.total + length bytes) 268435456 (nat_lt 268435456 (old.total + length bytes)) limit.AllBytes refl)
+        over-is-limit (length bytes) (most limit.AssetBytes) (nat_lt (most limit.AssetBytes) (length bytes)) limit.AssetBytes refl (passes limit.AllBytes (old.total + length bytes))
+        (all-is-limit (old.total + length bytes) (most limit.AllBytes) (nat_lt (most limit.AllBytes) (old.total + length bytes)) limit.AllBytes refl)
         (sym (ap (λ o. option_or o (over_after old.total (length bytes))) none) ∙ sym adds.0 ∙ same)
     by_over (Some f) some = never (some ∙ sym (ap (λ o. option_or o (over_after old.total (length bytes))) some) ∙ sym adds.0 ∙ same)

@@ -20,9 +20,10 @@ use Rattle.addr_project.specs.declared.model.Group.{Group}
 use Rattle.addr_project.specs.declared.rows.AssetRow.{AssetRow}
 use Rattle.addr_project.specs.declared.rows.EntryRow.{EntryRow}
 use Rattle.addr_project.specs.declared.rows.ProjectFile.{ProjectFile}
-use Rattle.addr_project.specs.Faults.{over, over_labels, over_refs, total_refs, unless_some, too_long, tree_fault, head_fault, row_fault, file_fault, count_fault, key_fault, link_fault, text_fault}
+use Rattle.addr_project.specs.Faults.{passes, over_labels, over_refs, total_refs, unless_some, too_long, tree_fault, head_fault, row_fault, file_fault, count_fault, key_fault, link_fault, text_fault}
 use Rattle.addr_project.specs.Model.{Project}
 use Rattle.addr_project.specs.Reading.{size_answer, length_of, asset_fault, bytes_of, path, tree_of, reply_of_file, reply_after, reply_of_tree, reply_of_bytes, reply_of_folder, unless_fault}
+use Rattle.addr_project.specs.Limits.{most}
 use Rattle.addr_project.specs.Rows.{file_of, version_of, profile_of, profile_text, profile, rows_at}
 use Rattle.addr_project_rows.specs.Firsts.{first_of, first_from}
 
@@ -69,8 +70,8 @@ long (Err expanding.Cycle) = none
 long (Err (expanding.TooLong n)) = some (OverLimit limit.Expanded n) tt
 long (Err expanding.NoMemory) = none
 
-over_told : (which : Limit) (most n : ℕ) → Told (over which most n)
-over_told which most n = tested (nat_lt most n) (OverLimit which n) tt
+passes_told : (which : Limit) (n : ℕ) → Told (passes which n)
+passes_told which n = tested (nat_lt (most which) n) (OverLimit which n) tt
 
 unless_told : {A : Type 0} (p : Part) (value : Option A) → Told (unless_some p value)
 unless_told p value = tested (is_none value) (BadField p 0) tt
@@ -91,9 +92,9 @@ row_told tree =
 count_told : (variables : List Var) (groups : List Group) (refs : List (List Guid)) (labels : List (List (List ℕ))) → Told (count_fault variables groups refs labels)
 unfolding count_fault
 count_told variables groups refs labels =
-    either _ _ (over_told limit.Variables 64 (length variables)) (either _ _ (over_told limit.Groups 1024 (length groups)) (either _ _ (over_told limit.Assets 65536 (length refs)) (either _ _ (over_told limit.Entries 65536 (length labels))
-    (either _ _ (firsts over_labels (λ ls. over_told limit.Labels 32 (length ls)) labels) (either _ _ (firsts over_refs (λ gs. over_told limit.Refs 1024 (length gs)) refs)
-    (either _ _ (over_told limit.AllRefs 1000000 (total_refs refs)) none))))))
+    either _ _ (passes_told limit.Variables (length variables)) (either _ _ (passes_told limit.Groups (length groups)) (either _ _ (passes_told limit.Assets (length refs)) (either _ _ (passes_told limit.Entries (length labels))
+    (either _ _ (firsts over_labels (λ ls. passes_told limit.Labels (length ls)) labels) (either _ _ (firsts over_refs (λ gs. passes_told limit.Refs (length gs)) refs)
+    (either _ _ (passes_told limit.AllRefs (total_refs refs)) none))))))
 
 key_told : (groups : List Group) (assets : List AssetRow) (entries : List EntryRow) → Told (key_fault groups assets entries)
 unfolding key_fault
@@ -127,7 +128,7 @@ pub tree_never : (tree : Members) → tree_fault tree ≡ Some DepotFault → �
 tree_never tree is = tree_told tree DepotFault is
 
 size_told : (before : List ℕ) (n : ℕ) → Told (size_answer before n)
-size_told before n = either _ _ (over_told limit.AssetBytes 67108864 n) (over_told limit.AllBytes 268435456 (sum before + n))
+size_told before n = either _ _ (passes_told limit.AssetBytes n) (passes_told limit.AllBytes (sum before + n))
 
 asset_told : (contents : List (Option (List ℕ))) → Told (asset_fault contents)
 unfolding asset_fault

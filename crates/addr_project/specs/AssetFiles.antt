@@ -25,5 +25,6 @@ ReadsAssets files folder rows (Err e) = (e ≡ NoMemory) ⊎ ((e ≡ DepotFault)
 -- what assets have of their rows, whatever their files hold, and that no size passes a limit
 pub record KeepsRows (rows : List AssetRow) (assets : List Asset) : Type 0 where
   pub guids : asset_guids assets ≡ guids_of rows
+  pub kinds : map (λ a. a.kind) assets ≡ map (λ row. row.kind) rows
   pub refs : map (λ a. a.refs) assets ≡ map (λ row. row.refs) rows
   pub sizes : size_fault (map (λ a. length a.bytes) assets) ≡ None

@@ -24,6 +24,7 @@ use Rattle.addr_expansion.specs.Replies.{is_bad, is_circular, replies}
 use Rattle.addr_project_rows.specs.Fields.{first_bad}
 use Rattle.addr_project_rows.specs.Firsts.{first_some, first_of, first_where, first_repeat, is_among}
 use Rattle.addr_project_rows.specs.Variables.{is_bad_variable}
+use Rattle.addr_project.specs.Limits.{most}
 use Rattle.addr_project.specs.Rows.{group_of, asset_of, entry_of, version_of, profile_of, profile_text, profile, rows_at, rows, file_of}
 
 -- 1. Fields
@@ -68,17 +69,21 @@ field_fault tree = option_or (head_fault tree) (row_fault tree)
 
 -- 2. Limits
 
--- a count is above its limit
+-- a count is above a number
 abbrev pub over : Limit → ℕ → ℕ → Option ProjectErr
-over which most count = if nat_lt most count then Some (OverLimit which count) else None
+over which top count = if nat_lt top count then Some (OverLimit which count) else None
+
+-- a count is above its limit
+abbrev pub passes : Limit → ℕ → Option ProjectErr
+passes which count = over which (most which) count
 
 -- an entry has too many labels
 abbrev pub over_labels : List (List ℕ) → Option ProjectErr
-over_labels labels = over limit.Labels 32 (length labels)
+over_labels labels = passes limit.Labels (length labels)
 
 -- an asset has too many references
 abbrev pub over_refs : List Guid → Option ProjectErr
-over_refs refs = over limit.Refs 1024 (length refs)
+over_refs refs = passes limit.Refs (length refs)
 
 -- the references of all assets; the count stands still at the end of a u64
 abbrev pub total_refs : List (List Guid) → ℕ
@@ -87,13 +92,13 @@ total_refs refs = min (sum_by (λ gs. length gs) refs) (2 ^ 64 - 1)
 -- the first count that is above its limit, given the variables, the groups, each asset's references and each entry's labels
 unfoldable pub count_fault : List Var → List Group → List (List Guid) → List (List (List ℕ)) → Option ProjectErr
 count_fault variables groups refs labels = first_some (
-    over limit.Variables 64 (length variables)
-    ∷ over limit.Groups 1024 (length groups)
-    ∷ over limit.Assets 65536 (length refs)
-    ∷ over limit.Entries 65536 (length labels)
+    passes limit.Variables (length variables)
+    ∷ passes limit.Groups (length groups)
+    ∷ passes limit.Assets (length refs)
+    ∷ passes limit.Entries (length labels)
     ∷ first_of over_labels labels
     ∷ first_of over_refs refs
-    ∷ over limit.AllRefs 1000000 (total_refs refs)
+    ∷ passes limit.AllRefs (total_refs refs)
     ∷ [])
 
 -- 3. Names

@@ -5,6 +5,7 @@ pub mod DepotCauses
 pub mod Faults
 pub mod Kept
 pub mod Laws
+pub mod Limits
 pub mod Loading
 pub mod Model
 pub mod Modes

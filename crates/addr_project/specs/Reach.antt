@@ -1,6 +1,6 @@
 -- What a project shows under a key. No bundle stands in it: builds and updates are proved against it.
-use Rattle.std.specs.Prelude.{ℕ, ◌≡◌, ◌||◌, List, Bool, false, Option, Some, None}
-use Rattle.std.specs.List.{filter, slice_get, Contains, list_any, AllZip}
+use Rattle.std.specs.Prelude.{ℕ, ◌≡◌, not, List, [], ◌∷◌, Bool, false, Option, Some, None}
+use Rattle.std.specs.List.{filter, slice_get, Contains, AllZip}
 use Rattle.std.specs.Ordering.{nat_cmp}
 use Rattle.std.specs.Cmp.Lexicographic.{slice_cmp}
 use Rattle.std.specs.Str.{bytes_eq}
@@ -10,6 +10,7 @@ use Rattle.addr_base.specs.declared.ids.Guid.{Guid}
 use Rattle.addr_project.specs.declared.model.Asset.{Asset}
 use Rattle.addr_project.specs.declared.model.Entry.{Entry}
 use Rattle.addr_project.specs.Model.{Project}
+use Rattle.addr_project_rows.specs.Firsts.{is_among}
 use Rattle.addr_walks.specs.Walks.{Leads, IsListOf}
 
 -- the order of GUIDs is that of their bytes
@@ -52,9 +53,18 @@ pub record Row : Type 0 where
   pub kind : List ℕ
   pub items : List Item
 
--- a key leads to an entry by its address, the 32 digits of its asset's GUID, or a label
+-- texts, each once, where it stands first
+abbrev pub each_once : List (List ℕ) → List (List ℕ)
+each_once [] = []
+each_once (text ∷ texts) = text ∷ filter (λ other. not (bytes_eq other text)) (each_once texts)
+
+-- the keys of an entry in order: its address, the 32 digits of its asset's GUID, and its labels, each once
+abbrev pub entry_keys : Entry → Asset → List (List ℕ)
+entry_keys e asset = each_once (e.address ∷ hex_of asset.guid.0 ∷ e.labels)
+
+-- a key leads to an entry where it is one of the entry's keys
 abbrev pub has_key : List ℕ → Entry → Option Asset → Bool
-has_key key e (Some asset) = bytes_eq e.address key || bytes_eq (hex_of asset.guid.0) key || list_any (λ l. bytes_eq l key) e.labels
+has_key key e (Some asset) = is_among (entry_keys e asset) key
 has_key key e None = false
 
 -- an entry of the project has the key

@@ -17,7 +17,7 @@ use Rattle.addr_project.specs.declared.rows.AssetRow.{AssetRow}
 use Rattle.addr_project.specs.declared.rows.EntryRow.{EntryRow}
 use Rattle.addr_project.specs.declared.rows.ProjectFile.{ProjectFile}
 use Rattle.addr_expansion.specs.Expansion.{expanded}
-use Rattle.addr_project.specs.Faults.{over, guids_of, names_of, tree_fault}
+use Rattle.addr_project.specs.Faults.{passes, guids_of, names_of, tree_fault}
 use Rattle.addr_project_rows.specs.Firsts.{first_from, first_where, place_of}
 use Rattle.addr_project.specs.Model.{Project}
 use Rattle.addr_project.specs.Rows.{file_of}
@@ -32,7 +32,7 @@ bytes_of files folder row = file_at (path folder row.file) files
 
 -- a file's length is above its limit, or with the total of the files before it above theirs
 abbrev pub over_after : ℕ → ℕ → Option ProjectErr
-over_after total n = option_or (over limit.AssetBytes 67108864 n) (over limit.AllBytes 268435456 (total + n))
+over_after total n = option_or (passes limit.AssetBytes n) (passes limit.AllBytes (total + n))
 
 -- the same after the lengths of the files before it
 abbrev pub size_answer : List ℕ → ℕ → Option ProjectErr

@@ -7,9 +7,11 @@ ghost use Rattle.std.specs.Ordering.{nat_cmp};
 ghost use Rattle.std.specs.Prelude.{◌≡◌, ◌<◌, ◌≤◌, ◌+◌, ◌^◌, ◌&&◌, Some, IfOk, IfSome, IfNone, string_bytes, vec_len};
 ghost use Rattle.addr_base.specs.Files.{SameStore};
 ghost use Rattle.addr_project.specs.AssetFiles.{ReadsAssets, KeepsRows};
+ghost use Rattle.addr_project.specs.Limits.{most};
 ghost use Rattle.addr_project.specs.Loading.{Adds};
 ghost use Rattle.addr_project.specs.Reading.{path, asset_from, over_after};
 ghost use Rattle.addr_project.specs.Causes.{FaultHasCause};
+ghost use Rattle.addr_project.specs.declared.limit.Limit.TheVariants as limit;
 
 use crate::counts::over;
 use crate::error::ProjectErr;
@@ -21,11 +23,6 @@ use addr_base::{Depot, Items, NoMemory, Text};
 use addr_project_rows::row_number;
 use std::alloc::Global;
 use std::collections::BTreeSet;
-
-/// The most bytes of an asset's file.
-pub const MOST_ASSET_BYTES: u64 = 67_108_864;
-/// The most bytes of all asset files.
-pub const MOST_ALL_BYTES: u64 = 268_435_456;
 
 /// The depot's name of a file below the folder.
 pub fn path_of(alloc: Global, folder: &str, name: &str) -> Result<String, NoMemory>
@@ -90,9 +87,9 @@ fn is_known(loaded: &Loaded, seen: &BTreeSet<&str>, file: &str) -> bool
 /// One more file.
 fn load(alloc: Global, loaded: Loaded, row: &AssetRow, bytes: Vec<u8>) -> Result<Loaded, NoMemory>
     requires short { vec_len bytes < 2 ^ 32 }
-    requires small { loaded.total ≤ 268435456 }
+    requires small { loaded.total ≤ most limit.AllBytes }
     ensures adds { IfOk result (Adds loaded row.now bytes.items) }
-    ensures small { IfOk result (λ new. new.total ≤ 268435456) }
+    ensures small { IfOk result (λ new. new.total ≤ most limit.AllBytes) }
 {
     if loaded.over.is_some() {
         return Ok(loaded);
@@ -142,11 +139,7 @@ fn asset_from(alloc: Global, row: &AssetRow, bytes: Vec<u8>) -> Result<Asset, No
 fn over_after(total: u64, length: u64) -> Option<ProjectErr>
     requires { total + length < 2 ^ 64 }
     ensures value { result ≡ over_after total length }
-    ensures small { IfNone result (total + length ≤ 268435456) }
+    ensures small { IfNone result (total + length ≤ most limit.AllBytes) }
 {
-    over(Limit::AssetBytes, MOST_ASSET_BYTES, length).or(over(
-        Limit::AllBytes,
-        MOST_ALL_BYTES,
-        total + length,
-    ))
+    over(Limit::AssetBytes, length).or(over(Limit::AllBytes, total + length))
 }

@@ -1,7 +1,7 @@
 // The counts of a project file against their limits, in the order of `Limit`.
 ghost use Rattle.std.specs.Prelude.{◌≡◌, ◌-◌, ◌^◌, min, map, length, List, ℕ};
 ghost use Rattle.std.specs.List.{sum_by};
-ghost use Rattle.addr_project.specs.Faults.{over, over_labels, over_refs, total_refs, count_fault};
+ghost use Rattle.addr_project.specs.Faults.{passes, over_labels, over_refs, total_refs, count_fault};
 ghost use Rattle.addr_project_rows.specs.Firsts.{first_of};
 
 use crate::error::ProjectErr;
@@ -10,48 +10,25 @@ use crate::model::Group;
 use crate::rows::{AssetRow, EntryRow, ProjectFile};
 use addr_base::Var;
 
-/// The most variables of a project.
-pub const MOST_VARIABLES: u64 = 64;
-/// The most groups of a project.
-pub const MOST_GROUPS: u64 = 1_024;
-/// The most assets of a project.
-pub const MOST_ASSETS: u64 = 65_536;
-/// The most entries of a project.
-pub const MOST_ENTRIES: u64 = 65_536;
-/// The most different labels of an entry.
-pub const MOST_LABELS: u64 = 32;
-/// The most references of an asset.
-pub const MOST_REFS: u64 = 1_024;
-/// The most references of all assets.
-pub const MOST_ALL_REFS: u64 = 1_000_000;
-
 /// The first count that passes its limit.
 #[tactic(auto, unfolding(crate::specs::Faults::count_fault))]
 pub fn count_fault(file: &ProjectFile) -> Option<ProjectErr>
     ensures { result ≡ count_fault file.now.variables file.now.groups (map (λ a. a.refs) file.now.assets) (map (λ e. e.labels) file.now.entries) }
 {
-    over(
-        Limit::Variables,
-        MOST_VARIABLES,
-        file.variables.len() as u64,
-    )
-    .or(over(Limit::Groups, MOST_GROUPS, file.groups.len() as u64))
-    .or(over(Limit::Assets, MOST_ASSETS, file.assets.len() as u64))
-    .or(over(Limit::Entries, MOST_ENTRIES, file.entries.len() as u64))
-    .or(first_labels(file.entries.as_slice()))
-    .or(first_refs(file.assets.as_slice()))
-    .or(over(
-        Limit::AllRefs,
-        MOST_ALL_REFS,
-        all_refs(file.assets.as_slice()),
-    ))
+    over(Limit::Variables, file.variables.len() as u64)
+        .or(over(Limit::Groups, file.groups.len() as u64))
+        .or(over(Limit::Assets, file.assets.len() as u64))
+        .or(over(Limit::Entries, file.entries.len() as u64))
+        .or(first_labels(file.entries.as_slice()))
+        .or(first_refs(file.assets.as_slice()))
+        .or(over(Limit::AllRefs, all_refs(file.assets.as_slice())))
 }
 
 /// The fault of a count above its limit.
-pub fn over(which: Limit, most: u64, count: u64) -> Option<ProjectErr>
-    ensures { result ≡ over which most count }
+pub fn over(which: Limit, count: u64) -> Option<ProjectErr>
+    ensures { result ≡ passes which count }
 {
-    if most < count {
+    if which.most() < count {
         Some(ProjectErr::OverLimit { which, count })
     } else {
         None
@@ -62,7 +39,7 @@ fn first_labels(entries: &[EntryRow]) -> Option<ProjectErr>
     ensures { result ≡ first_of over_labels (map (λ e. e.labels) entries.now) }
 {
     for entry in entries.iter() {
-        let fault = over(Limit::Labels, MOST_LABELS, entry.labels.len() as u64);
+        let fault = over(Limit::Labels, entry.labels.len() as u64);
         if fault.is_some() {
             return fault;
         }
@@ -74,7 +51,7 @@ fn first_refs(assets: &[AssetRow]) -> Option<ProjectErr>
     ensures { result ≡ first_of over_refs (map (λ a. a.refs) assets.now) }
 {
     for asset in assets.iter() {
-        let fault = over(Limit::Refs, MOST_REFS, asset.refs.len() as u64);
+        let fault = over(Limit::Refs, asset.refs.len() as u64);
         if fault.is_some() {
             return fault;
         }

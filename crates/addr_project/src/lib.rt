@@ -27,7 +27,7 @@ mod text_faults;
 
 pub use addr_expansion::ExpandErr;
 pub use error::ProjectErr;
-pub use laws::folder_has_one_answer;
+pub use laws::{entry_has_keys, folder_has_one_answer, project_shows_once};
 pub use limit::{Limit, Part};
 pub use model::{Asset, Entry, Group, Mode};
 pub use project::Project;

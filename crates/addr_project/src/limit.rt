@@ -2,6 +2,7 @@
 // plan and build; they stand here so that every refusal names its limit by one type.
 
 ghost use Rattle.std.specs.Prelude.{◌≡◌};
+ghost use Rattle.addr_project.specs.Limits.{most};
 ghost use Rattle.addr_project.specs.Printed.{limit_text, part_text};
 
 use std::fmt;
@@ -74,6 +75,28 @@ pub enum Limit {
 }
 
 impl Limit {
+    /// The most that is allowed; one more is refused. Texts, files and names are counted in bytes.
+    pub fn most(self) -> u64
+        ensures { result ≡ most self }
+    {
+        match self {
+            Limit::Variables => 64,
+            Limit::Groups => 1_024,
+            Limit::Assets => 65_536,
+            Limit::Entries => 65_536,
+            Limit::Labels => 32,
+            Limit::Refs => 1_024,
+            Limit::AllRefs => 1_000_000,
+            Limit::Expanded => 1_024,
+            Limit::AssetBytes => 67_108_864,
+            Limit::AllBytes => 268_435_456,
+            Limit::BundleName => 200,
+            Limit::Members => 4_000_000,
+            Limit::Deps => 4_000_000,
+            Limit::BundleBytes => 1_073_741_824,
+        }
+    }
+
     /// The word by which programs print the limit.
     pub fn text(&self) -> &'static str
         ensures { result.now ≡ limit_text self.now }

@@ -58,3 +58,11 @@ nil-sorted = tt
 
 pub ascending-sorted : (texts : List (List ℕ)) → IsStrictlySortedBy (slice_cmp nat_cmp) (ascending texts)
 ascending-sorted texts = fold-sorted texts [] nil-sorted
+
+fold-all : (P : List ℕ → Type 0) (texts sorted : List (List ℕ)) → AllByRecursion P sorted → AllByRecursion P texts → AllByRecursion P (fold (λ found text. with_text text found) sorted texts)
+fold-all P [] sorted old all = old
+fold-all P (text ∷ texts) sorted old (first, rest) = fold-all P texts (with_text text sorted) (all-more P text sorted first old) rest
+
+-- what holds of each text holds of each when they are in order
+pub ascending-all : (P : List ℕ → Type 0) (texts : List (List ℕ)) → AllByRecursion P texts → AllByRecursion P (ascending texts)
+ascending-all P texts all = fold-all P texts [] tt all

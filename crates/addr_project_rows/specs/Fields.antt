@@ -33,29 +33,36 @@ abbrev pub text_where : (List ℕ → Bool) → Data → Option (List ℕ)
 text_where test (string s) = if test s then Some s else None
 text_where test _ = None
 
+-- the most bytes of a text, and of a variable's name
+abbrev pub most_text : ℕ
+most_text = 255
+
+abbrev pub most_name : ℕ
+most_name = 64
+
 -- the length is one of low to high
 abbrev pub is_within : ℕ → ℕ → List ℕ → Bool
 is_within low high s = nat_le low (length s) && nat_le (length s) high
 
--- a text of 1 to 255 bytes
+-- a text of at least one byte that is not too long
 abbrev pub text_of : Data → Option (List ℕ)
-text_of d = text_where (is_within 1 255) d
+text_of d = text_where (is_within 1 most_text) d
 
--- a required text of 1 to 255 bytes
+-- a required text
 abbrev pub required : List ℕ → Members → Option (List ℕ)
 required key ms = field text_of None key ms
 
--- a version: 1 to 255 bytes that are printed and no space
+-- a version: a text of bytes that are printed and no space
 abbrev pub is_version : List ℕ → Bool
-is_version s = is_within 1 255 s && list_all (λ b. nat_le 33 b && nat_le b 126) s
+is_version s = is_within 1 most_text s && list_all (λ b. nat_le 33 b && nat_le b 126) s
 
 -- `[`, `]`, `{` and `}`
 abbrev pub is_bracket : ℕ → Bool
 is_bracket b = b == 91 || b == 93 || b == 123 || b == 125
 
--- a variable's name: 1 to 64 bytes, none of them a bracket
+-- a variable's name: at least one byte, none of them a bracket, and not too long
 abbrev pub is_name : List ℕ → Bool
-is_name s = is_within 1 64 s && not (list_any is_bracket s)
+is_name s = is_within 1 most_name s && not (list_any is_bracket s)
 
 -- a part of a file's name is neither empty nor one of the two dots
 abbrev pub is_part : List ℕ → Bool
@@ -80,7 +87,7 @@ are_free parts = list_all is_part parts && is_first_free parts
 
 -- the name of a file below the folder
 abbrev pub is_file_name : List ℕ → Bool
-is_file_name s = is_within 1 255 s && are_free (parts_of s)
+is_file_name s = is_within 1 most_text s && are_free (parts_of s)
 
 -- the GUID whose bytes are these, where they are written as the text
 abbrev pub guid_spelled : List ℕ → Result (List ℕ) FromHexError → Option Guid

@@ -3,7 +3,7 @@ use Rattle.std.specs.Prelude.{codes, ℕ, List, map, Bool, true, Option, Some, N
 use Rattle.std.specs.List.{filter_map}
 use Rattle.toml.specs.Data.{Data, table}
 use Rattle.addr_base.specs.declared.var.Var.{Var}
-use Rattle.addr_project_rows.specs.Fields.{field, text_where, is_within, is_name}
+use Rattle.addr_project_rows.specs.Fields.{field, text_where, is_within, is_name, most_text}
 use Rattle.addr_project_rows.specs.Firsts.{is_among}
 
 -- the variable of a name and a value, where both are good
@@ -13,7 +13,7 @@ variable_from _ _ = None
 
 -- a row `[[variable]]`
 abbrev pub variable_of : Data → Option Var
-variable_of (table ms) = variable_from (field (text_where is_name) None (codes "name") ms) (field (text_where (is_within 0 255)) None (codes "value") ms)
+variable_of (table ms) = variable_from (field (text_where is_name) None (codes "name") ms) (field (text_where (is_within 0 most_text)) None (codes "value") ms)
 variable_of _ = None
 
 -- a variable is bad among those before it where it stands for nothing, or has the name of one of them

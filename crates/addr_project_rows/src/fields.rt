@@ -4,7 +4,7 @@ ghost use Rattle.std.specs.Prelude.{◌≡◌, List, ℕ, Bool, if◌then◌else
 ghost use Rattle.std.specs.Option.{option_map, option_copied};
 ghost use Rattle.toml.specs.Data.{Data, Members, get_member, as_bool, as_table};
 ghost use Rattle.toml.specs.View.{view, table_view};
-ghost use Rattle.addr_project_rows.specs.Fields.{field, required, text_of, text_where, is_within, is_version, is_name, is_file_name, guid_of, guid_from, rows_of};
+ghost use Rattle.addr_project_rows.specs.Fields.{field, required, text_of, text_where, is_within, is_version, is_name, is_file_name, guid_of, guid_from, rows_of, most_text};
 
 use crate::texts;
 use addr_base::{Guid, NoMemory};
@@ -28,12 +28,12 @@ pub fn as_text(value: &Value) -> Option<&str>
     ensures { option_copied result ≡ text_of (view value.now) }
 {
     match value.as_str() {
-        Some(text) => text_if(text, texts::is_within(text, 1, 255)),
+        Some(text) => text_if(text, texts::is_text(text)),
         None => None,
     }
 }
 
-/// A required text of 1 to 255 bytes.
+/// A required text.
 pub fn text_at<'a>(table: &'a Table, key: &str) -> Option<&'a str>
     ensures { option_copied result ≡ required key.now (table_view table.now) }
 {
@@ -43,12 +43,12 @@ pub fn text_at<'a>(table: &'a Table, key: &str) -> Option<&'a str>
     }
 }
 
-/// A variable's value: a required text of at most 255 bytes.
+/// A variable's value: a required text, which may be empty.
 pub fn value_at<'a>(table: &'a Table, key: &str) -> Option<&'a str>
-    ensures { option_copied result ≡ field (text_where (is_within 0 255)) None key.now (table_view table.now) }
+    ensures { option_copied result ≡ field (text_where (is_within 0 most_text)) None key.now (table_view table.now) }
 {
     match member(table, key)?.as_str() {
-        Some(text) => text_if(text, texts::is_within(text, 0, 255)),
+        Some(text) => text_if(text, texts::is_within(text, 0, texts::MOST_TEXT)),
         None => None,
     }
 }

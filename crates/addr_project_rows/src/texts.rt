@@ -1,10 +1,15 @@
 // Tests of texts: versions, names of variables, and names of files below the folder.
 ghost use Rattle.std.specs.Prelude.{◌≡◌, ◌&&◌, nat_le, length, IfOk, List, map};
 ghost use Rattle.std.specs.List.{list_all, list_any, slice_split};
-ghost use Rattle.addr_project_rows.specs.Fields.{is_version, is_name, is_bracket, is_file_name, is_part, is_taken, is_first_free, is_within, parts_of, are_free};
+ghost use Rattle.addr_project_rows.specs.Fields.{is_version, is_name, is_bracket, is_file_name, is_part, is_taken, is_first_free, is_within, most_text, parts_of, are_free};
 
 use addr_base::NoMemory;
 use std::alloc::Global;
+
+/// The most bytes of a text.
+pub const MOST_TEXT: usize = 255;
+/// The most bytes of a variable's name.
+pub const MOST_NAME: usize = 64;
 
 pub fn is_within(text: &str, low: usize, high: usize) -> bool
     ensures { result ≡ is_within low high text.now }
@@ -12,11 +17,18 @@ pub fn is_within(text: &str, low: usize, high: usize) -> bool
     low <= text.len() && text.len() <= high
 }
 
-/// 1 to 255 bytes that are printed and no space.
+/// A text of at least one byte that is not too long.
+pub fn is_text(text: &str) -> bool
+    ensures { result ≡ is_within 1 most_text text.now }
+{
+    is_within(text, 1, MOST_TEXT)
+}
+
+/// A text of bytes that are printed and no space.
 pub fn is_version(text: &str) -> bool
     ensures { result ≡ is_version text.now }
 {
-    is_within(text, 1, 255) && is_printed(text.as_bytes())
+    is_text(text) && is_printed(text.as_bytes())
 }
 
 fn is_printed(text: &[u8]) -> bool
@@ -25,11 +37,11 @@ fn is_printed(text: &[u8]) -> bool
     text.iter().all(|b| 33 <= *b && *b <= 126)
 }
 
-/// 1 to 64 bytes, none of them a bracket.
+/// At least one byte, none of them a bracket, and not too long.
 pub fn is_variable_name(text: &str) -> bool
     ensures { result ≡ is_name text.now }
 {
-    is_within(text, 1, 64) && !has_bracket(text.as_bytes())
+    is_within(text, 1, MOST_NAME) && !has_bracket(text.as_bytes())
 }
 
 fn has_bracket(text: &[u8]) -> bool
@@ -44,11 +56,11 @@ fn is_bracket(b: u8) -> bool
     b == b'[' || b == b']' || b == b'{' || b == b'}'
 }
 
-/// A name below the folder that nothing else takes: 1 to 255 bytes, no part empty or dots, and a free first part.
+/// A name below the folder that nothing else takes: a text with no part that is empty or dots, and a free first part.
 pub fn is_file_name(alloc: Global, text: &str) -> Result<bool, NoMemory>
     ensures { IfOk result (λ good. good ≡ is_file_name text.now) }
 {
-    if !is_within(text, 1, 255) {
+    if !is_text(text) {
         return Ok(false);
     }
     let parts = parts_of(alloc, text)?;
