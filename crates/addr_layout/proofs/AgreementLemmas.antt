@@ -1,5 +1,5 @@
 -- The walk through bundles and the walk through the project: each step of the one is a step of the other.
-use Rattle.std.proofs.Common.{◌≡◌, ◌≢◌, ℕ, zero, suc, ◌⊎◌, inl, inr, Bool, true, false, List, [], ◌∷◌, Option, Some, None, refl, sym, ap, subst, ◌∙◌}
+use Rattle.std.proofs.Common.{◌≡◌, ℕ, zero, suc, ◌⊎◌, inl, inr, Bool, true, false, List, [], ◌∷◌, Option, Some, None, refl, sym, ap, subst, ◌∙◌}
 use Rattle.std.proofs.lemmas.Bool.{cases_eq, false≢true}
 use Rattle.std.proofs.lemmas.Option.{slice_get_within}
 use Rattle.std.proofs.lemmas.Slice.Eq.{bytes_eq-Decides}
@@ -16,8 +16,8 @@ use Rattle.addr_walks.specs.Walks.{Leads}
 use Rattle.addr_walks.specs.Walks.Leads.{stays, goes}
 use Rattle.addr_walks.proofs.Lists.{Contains-here, Contains-later}
 use Rattle.addr_walks.proofs.Walking.{kept-along, Leads-map}
-use Rattle.addr_layout.specs.Agreement.{Agrees, Follows, Place, WalkAgrees, place}
-use Rattle.addr_layout.specs.Members.{EachPlaced, HasEntry, IsEntry, IsEntryOf, IsNumbered, Member, RefersWithin}
+use Rattle.addr_layout.specs.Agreement.{Follows, Place, WalkAgrees, place}
+use Rattle.addr_layout.specs.Members.{EachPlaced, HasEntry, IsEntry, IsNumbered, Member}
 use Rattle.addr_layout.specs.Needs.{Home, Needs}
 use Rattle.addr_layout.proofs.GuidLemmas.{same-guid}
 use Rattle.addr_layout.proofs.RankLemmas.{same-some}

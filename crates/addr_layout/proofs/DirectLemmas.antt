@@ -1,17 +1,15 @@
 -- The direct lists of a layout: their edges are the needs of the bundles that aren't kept.
-use Rattle.std.proofs.Common.{◌≡◌, ◌≢◌, ℕ, ◌<◌, ◌↔◌, Bool, true, false, List, [], ◌∷◌, length, get_or, map, Some, refl, sym, ap, subst, ◌∙◌, arith}
+use Rattle.std.proofs.Common.{◌≡◌, ◌≢◌, ℕ, ◌<◌, Bool, true, false, List, [], length, get_or, Some, sym, subst, ◌∙◌, arith}
 use Rattle.std.proofs.lemmas.List.{length-map}
 use Rattle.std.proofs.lemmas.Option.{slice_get_within, slice_get-get_or}
 use Rattle.std.specs.Bool.{MatchBool}
 use Rattle.std.specs.List.{Contains, slice_get}
-use Rattle.std.specs.Ordering.{nat_cmp}
 use Rattle.addr_pack.specs.declared.bundles.Plan.{Plan}
-use Rattle.addr_pack.specs.declared.bundles.PlanBundle.{PlanBundle}
 use Rattle.addr_project.specs.Model.{Project}
 use Rattle.addr_project.proofs.OnceLemmas.{to_map, from_map}
 use Rattle.addr_walks.specs.Closure.{IsDeps}
 use Rattle.addr_walks.specs.Rows.{AreBelow, Edge}
-use Rattle.addr_walks.specs.Walks.{IsListOf, Leads}
+use Rattle.addr_walks.specs.Walks.{Leads}
 use Rattle.addr_walks.proofs.Lists.{Contains-none, IsListOf-same}
 use Rattle.addr_walks.proofs.Walking.{Leads-map}
 use Rattle.addr_layout.specs.declared.model.LayBundle.{LayBundle}
@@ -19,7 +17,6 @@ use Rattle.addr_layout.specs.declared.model.Layout.{Layout}
 use Rattle.addr_layout.specs.Direct.{ClosesNeeds, IsAllNew, direct_lists}
 use Rattle.addr_layout.specs.Layout.{IsBare, IsFull, IsLaid, IsLayout}
 use Rattle.addr_layout.specs.Needs.{Needs}
-use Rattle.addr_layout.proofs.RankLemmas.{same-some}
 
 -- what a step to the same things leads to
 deps-same : (step other : ℕ → ℕ → Type 0) → ((b c : ℕ) → step b c → other b c) → ((b c : ℕ) → other b c → step b c) → (b : ℕ) (deps : List ℕ) → IsDeps step b deps → IsDeps other b deps

@@ -1,9 +1,9 @@
 -- What a search from a bundle's entries found lays the bundle out.
-use Rattle.std.proofs.Common.{◌≡◌, ◌≢◌, ℕ, ◌<◌, ◌⊎◌, inl, inr, Bool, true, false, ◌==◌, List, [], ◌∷◌, length, get_or, map, Option, Some, None, if◌then◌else◌, refl, sym, ap, subst, ◌∙◌, arith}
+use Rattle.std.proofs.Common.{◌≡◌, ◌≢◌, ℕ, ◌<◌, inl, inr, Bool, true, false, ◌==◌, List, [], ◌∷◌, length, get_or, map, Option, Some, None, if◌then◌else◌, refl, sym, ap, subst, ◌∙◌, arith}
 use Rattle.std.proofs.Common.{Less, Equal, Greater}
-use Rattle.std.proofs.lemmas.Bool.{false≢true, eqb-true, ne_eqb, eqb-false}
+use Rattle.std.proofs.lemmas.Bool.{eqb-true, ne_eqb, eqb-false}
 use Rattle.std.proofs.lemmas.Cmp.{ranked}
-use Rattle.std.proofs.lemmas.List.Elements.{Contains-get_or, All-contains}
+use Rattle.std.proofs.lemmas.List.Elements.{All-contains}
 use Rattle.std.proofs.lemmas.Map.Keys.{Less-from_sorted}
 use Rattle.std.proofs.lemmas.Option.{slice_get-get_or, slice_get_within, get_or_from_slice_get}
 use Rattle.std.specs.Bool.{MatchBool}
@@ -19,7 +19,7 @@ use Rattle.addr_project.specs.Reach.{guid_cmp}
 use Rattle.addr_project.proofs.OnceLemmas.{to_map}
 use Rattle.addr_walks.specs.Rows.{AreBelow, Edge, LedTo}
 use Rattle.addr_walks.specs.Walks.{IsListOf}
-use Rattle.addr_walks.proofs.Lists.{Contains-here, Contains-later, Contains-map, map-Contains, Contains-slice_get, slice_get-Contains, IsListOf-same, sorted-map}
+use Rattle.addr_walks.proofs.Lists.{Contains-here, Contains-later, Contains-map, map-Contains, Contains-slice_get, IsListOf-same, sorted-map}
 use Rattle.addr_walks.proofs.Numbering.{walk-up, walk-down}
 use Rattle.addr_walks.proofs.Walking.{kept-along}
 use Rattle.addr_walks.proofs.Zips.{zip-here, zip-there, zip-map}
@@ -34,7 +34,7 @@ use Rattle.addr_layout.specs.Members.{HasEntry, IsNumbered, IsShared, Member, Re
 use Rattle.addr_layout.specs.Needs.{IsHome, Needs}
 use Rattle.addr_layout.proofs.GraphLemmas.{bundle-at, entry-one, one-asset, refs-steps, within-steps}
 use Rattle.addr_layout.proofs.PlacedLemmas.{one-bundle, one-number}
-use Rattle.addr_layout.proofs.RankLemmas.{one-rank, same-some}
+use Rattle.addr_layout.proofs.RankLemmas.{same-some}
 
 -- what is led to is below a bound that the rows and the seeds keep
 pub led-below : (rows : List (List ℕ)) (seeds : List ℕ) (n c : ℕ) → AreBelow rows n → All (λ s. s < n) seeds → LedTo rows seeds c → c < n

@@ -1,25 +1,25 @@
 -- The rows of a project: their edges are its references, and the bundles beside its GUIDs are those of its entries.
-use Rattle.std.proofs.Common.{◌≡◌, ℕ, ◌<◌, ◌⊎◌, inl, inr, Bool, true, false, List, [], length, get_or, map, Option, Some, None, is_none, is_some, refl, sym, ap, subst, ◌∙◌, arith}
+use Rattle.std.proofs.Common.{◌≡◌, ℕ, ◌<◌, Bool, true, List, [], length, get_or, map, Option, Some, None, is_none, is_some, refl, sym, ap, subst, ◌∙◌, arith}
 use Rattle.std.proofs.lemmas.Bool.{false≢true}
 use Rattle.std.proofs.lemmas.List.{length-map}
 use Rattle.std.proofs.lemmas.Option.{slice_get-get_or, slice_get_within, get_or_from_slice_get}
-use Rattle.std.specs.List.{AllZip, Contains, filter, slice_get}
+use Rattle.std.specs.List.{Contains, filter, slice_get}
 use Rattle.addr_base.specs.declared.ids.Guid.{Guid}
 use Rattle.addr_pack.specs.declared.bundles.Plan.{Plan}
 use Rattle.addr_pack.specs.declared.bundles.PlanBundle.{PlanBundle}
 use Rattle.addr_project.specs.declared.model.Asset.{Asset}
-use Rattle.addr_project.specs.Kept.{IsKept, asset_guids}
+use Rattle.addr_project.specs.Kept.{IsKept}
 use Rattle.addr_project.specs.Model.{Project}
 use Rattle.addr_project.specs.Reach.{Refers}
 use Rattle.addr_project.proofs.OnceLemmas.{to_map, from_map}
 use Rattle.addr_walks.specs.Places.{EachAt}
 use Rattle.addr_walks.specs.Rows.{AreBelow, Edge}
-use Rattle.addr_walks.proofs.Lists.{Contains-slice_get, slice_get-Contains, Contains-filter, filter-Contains}
+use Rattle.addr_walks.proofs.Lists.{slice_get-Contains, Contains-filter, filter-Contains}
 use Rattle.addr_walks.proofs.Numbering.{AreSteps}
 use Rattle.addr_walks.proofs.Zips.{zip-here, zip-there}
 use Rattle.addr_layout.specs.declared.graph.Graph.{Graph}
 use Rattle.addr_layout.specs.Graph.{AreGuids, AreBeside, AreRefRanks, AreSeeds, IsBundleOf, IsEntryRank, IsGraph, IsSized, is_free}
-use Rattle.addr_layout.specs.Members.{HasEntry, IsEntry, IsEntryOf, IsNumbered, IsShared, RefersWithin}
+use Rattle.addr_layout.specs.Members.{HasEntry, IsEntry, IsEntryOf, IsShared, RefersWithin}
 use Rattle.addr_layout.specs.Owners.{AreOwners}
 use Rattle.addr_layout.proofs.RankLemmas.{one-rank, same-some}
 

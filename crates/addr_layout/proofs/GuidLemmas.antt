@@ -1,34 +1,27 @@
 -- GUIDs in ascending order: each asset's once, and the place of each can be looked up.
-use Rattle.std.proofs.Common.{◌≡◌, ◌≢◌, ℕ, ◌+◌, ◌<◌, ◌≤◌, ◌⊎◌, inl, inr, Bool, true, false, if◌then◌else◌, ◌==◌, nat_lt, nat_eq, List, [], ◌∷◌, length, get_or, map, Option, Some, None, Result, Ok, Err, refl, sym, ap, subst, ◌∙◌, arith}
+use Rattle.std.proofs.Common.{◌≡◌, ℕ, ◌+◌, ◌<◌, ◌≤◌, ◌⊎◌, inl, inr, Bool, false, List, [], length, get_or, map, Some, Err, refl, sym, ap, ◌∙◌, arith}
 use Rattle.std.proofs.Common.{Less, Equal, Greater}
-use Rattle.std.proofs.lemmas.Bool.{false≢true, ltb-false, cases_lt, false_from_ne_true}
-use Rattle.std.proofs.lemmas.Cmp.{on_total, nat_list_cmp_total, nat_list_eq_equiv, on_equiv, tied_itself}
-use Rattle.std.proofs.lemmas.List.{length-map, get_or-map, get_or_default}
-use Rattle.std.proofs.lemmas.List.Elements.{Contains-get_or}
+use Rattle.std.proofs.lemmas.Bool.{false≢true, cases_lt, false_from_ne_true}
+use Rattle.std.proofs.lemmas.Cmp.{on_total, nat_list_cmp_total, nat_list_eq_equiv, tied_itself}
+use Rattle.std.proofs.lemmas.List.{length-map}
 use Rattle.std.proofs.lemmas.List.Sorted.{searchable_from_sorted, length_permutation, Contains-permutation, IsPermutation-sym}
 use Rattle.std.proofs.lemmas.Map.Keys.{sorted_from_all_adjacent, Less-from_sorted, IsDistinct-IsPermutation, IsDistinct-from_apart, apart_from_distinct}
 use Rattle.std.proofs.lemmas.Map.Text.{is_eq-slice_cmp}
-use Rattle.std.proofs.lemmas.Option.{slice_get-get_or, slice_get_within}
+use Rattle.std.proofs.lemmas.Option.{slice_get-get_or}
 use Rattle.std.proofs.lemmas.Slice.Eq.{bytes_eq-Decides}
 use Rattle.std.specs.Cmp.{IsTotalOrder}
-use Rattle.std.specs.Cmp.Lexicographic.{slice_cmp}
 use Rattle.std.specs.List.{Contains, IsDistinct, HoldsAt, slice_get}
 use Rattle.std.specs.List.Sorted.{IsBinarySearchResult, IsPartitionPoint, IsPermutation, IsSorted, IsSortedBy, IsStrictlySortedBy}
-use Rattle.std.specs.Ordering.{is_eq, is_lt, nat_cmp, ordering_reverse, ordering_index}
+use Rattle.std.specs.Ordering.{is_eq, is_lt, ordering_reverse}
 use Rattle.std.specs.Str.{bytes_eq}
 use Rattle.std.specs.declared.cmp.Ordering.{Ordering}
 use Rattle.addr_base.specs.declared.ids.Guid.{Guid}
-use Rattle.addr_project.specs.declared.error.ProjectErr.{ProjectErr}
 use Rattle.addr_project.specs.declared.model.Asset.{Asset}
-use Rattle.addr_project.specs.Faults.{over, count_fault}
 use Rattle.addr_project.specs.Kept.{IsKept, asset_guids}
 use Rattle.addr_project.specs.Model.{Project}
 use Rattle.addr_project.specs.Reach.{guid_cmp}
-use Rattle.addr_project.proofs.OnceLemmas.{none-parts, to_map, get_contained, contained_get, from_map}
-use Rattle.addr_walks.specs.Once.{AreOnce}
-use Rattle.addr_walks.specs.Walks.{IsListOf}
+use Rattle.addr_project.proofs.OnceLemmas.{to_map, get_contained, contained_get, from_map}
 use Rattle.addr_layout.specs.Graph.{AreGuids, IsGuid}
-use Rattle.addr_layout.specs.Members.{IsNumbered}
 use Rattle.addr_layout.proofs.LimitLemmas.{few-assets}
 
 -- ---- the order

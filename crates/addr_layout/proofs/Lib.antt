@@ -12,3 +12,5 @@ pub mod SharedLemmas
 pub mod LimitLemmas
 pub mod LinkLemmas
 pub mod FollowLemmas
+pub mod LedLemmas
+pub mod UniqueLemmas

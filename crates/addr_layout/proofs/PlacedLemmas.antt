@@ -1,6 +1,6 @@
 -- Assets and entries are named once: a GUID has one number, one entry, and a place in one bundle.
-use Rattle.std.proofs.Common.{◌≡◌, ℕ, ◌⊎◌, inl, inr, Some, refl, sym, ap, subst, ◌∙◌}
-use Rattle.std.specs.List.{Contains, slice_get}
+use Rattle.std.proofs.Common.{◌≡◌, ℕ, Some, sym, ap, subst, ◌∙◌}
+use Rattle.std.specs.List.{Contains}
 use Rattle.addr_base.specs.declared.ids.Guid.{Guid}
 use Rattle.addr_pack.specs.declared.bundles.Plan.{Plan}
 use Rattle.addr_project.specs.declared.model.Asset.{Asset}

@@ -1,15 +1,15 @@
 -- A project's own placement: each entry in exactly one bundle, no bundle kept, and no more bundles than entries.
-use Rattle.std.proofs.Common.{◌≡◌, ℕ, zero, suc, ◌+◌, ◌<◌, ◌≤◌, ◌^◌, ◌⊎◌, inl, inr, Bool, false, List, [], ◌∷◌, ◌++◌, length, get_or, map, Option, Some, None, nat_eq, nat_lt, if◌then◌else◌, refl, sym, ap, subst, ◌∙◌, arith}
-use Rattle.std.proofs.lemmas.Bool.{false_from_ne_true, eqb-true, cases_lt, ltb-false}
+use Rattle.std.proofs.Common.{◌≡◌, ℕ, zero, suc, ◌<◌, ◌≤◌, ◌⊎◌, inl, inr, false, List, [], ◌∷◌, ◌++◌, length, get_or, Some, nat_eq, refl, subst, arith}
+use Rattle.std.proofs.lemmas.Bool.{false_from_ne_true}
 use Rattle.std.proofs.lemmas.Cmp.{nat_eq_equiv}
-use Rattle.std.proofs.lemmas.List.{length-map, length_push}
+use Rattle.std.proofs.lemmas.List.{length_push}
 use Rattle.std.proofs.lemmas.Map.Keys.{IsDistinct-push}
 use Rattle.std.proofs.lemmas.Map.Steps.{length-le_from_distinct_below}
 use Rattle.std.proofs.lemmas.Option.{slice_get-get_or, slice_get_within}
 use Rattle.std.specs.List.{Contains, IsDistinct, list_any, slice_get}
 use Rattle.addr_pack.specs.declared.bundles.Plan.{Plan}
 use Rattle.addr_pack.specs.declared.bundles.PlanBundle.{PlanBundle}
-use Rattle.addr_pack.specs.Placement.{InBundle, IsClass, IsPlaced}
+use Rattle.addr_pack.specs.Placement.{InBundle, IsPlaced}
 use Rattle.addr_project.specs.Kept.{IsKept}
 use Rattle.addr_project.specs.Model.{Project}
 use Rattle.addr_walks.proofs.MarkLemmas.{any-Contains}

@@ -1,6 +1,6 @@
 -- Homes from bundles: where a reference leads by the bundle of what it leads to.
-use Rattle.std.specs.Prelude.{ℕ, ◌≡◌, ◌==◌, List, Option, Some, None, slice_index_or, if◌then◌else◌}
-use Rattle.std.specs.List.{Contains, filter_map, flat_map}
+use Rattle.std.specs.Prelude.{ℕ, ◌==◌, List, Option, Some, None, slice_index_or, if◌then◌else◌}
+use Rattle.std.specs.List.{Contains, filter_map}
 use Rattle.addr_layout.specs.declared.model.RefHome.{RefHome}
 use Rattle.addr_layout.specs.declared.model.RefHome.TheVariants.{Own, Bundle}
 

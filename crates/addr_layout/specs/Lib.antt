@@ -8,3 +8,4 @@ pub mod Graph
 pub mod Owners
 pub mod Homes
 pub mod Links
+pub mod Laws

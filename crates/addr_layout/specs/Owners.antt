@@ -1,5 +1,5 @@
 -- Rows of numbers turned round: which row a number stands in.
-use Rattle.std.specs.Prelude.{ℕ, ◌≡◌, ◌⊎◌, List, Bool, true, Option, Some, None, is_some, slice_index_or}
+use Rattle.std.specs.Prelude.{ℕ, ◌≡◌, ◌⊎◌, List, true, Option, Some, None, is_some, slice_index_or}
 use Rattle.std.specs.List.{Contains}
 use Rattle.addr_walks.specs.Rows.{Edge}
 

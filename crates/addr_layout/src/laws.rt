@@ -4,7 +4,9 @@ ghost use Rattle.addr_pack.specs.Placement.{IsPlaced};
 ghost use Rattle.addr_walks.specs.Closure.{IsDeps, BeginsOnce};
 ghost use Rattle.addr_layout.specs.Agreement.{WalkAgrees};
 ghost use Rattle.addr_walks.specs.Rows.{AreBelow};
+ghost use Rattle.addr_layout.specs.Counts.{IsDepsCount, IsMembersCount};
 ghost use Rattle.addr_layout.specs.Direct.{direct_lists, ClosesNeeds, IsAllNew};
+ghost use Rattle.addr_layout.specs.Laws.{AtMostOne, LeadsWell};
 ghost use Rattle.addr_layout.specs.Layout.{IsLayout};
 ghost use Rattle.addr_layout.specs.Members.{IsShared};
 ghost use Rattle.addr_layout.specs.Needs.{Needs};
@@ -40,4 +42,27 @@ pub fn direct_closes(project: &Project, plan: &Plan, layout: &Layout)
     ensures as_many { length (direct_lists layout.now) ≡ length plan.now.bundles }
     ensures below { AreBelow (direct_lists layout.now) (length (direct_lists layout.now)) }
     ensures closes { IsAllNew plan.now → ClosesNeeds project.now plan.now layout.now }
+{}
+
+/// A reference of a member that stays in its bundle leads to a member of it, and one that leads elsewhere to a bundle of the
+/// direct list.
+pub fn references_are_led(project: &Project, plan: &Plan, layout: &Layout)
+    requires { IsLayout project.now plan.now layout.now }
+    ensures { LeadsWell project.now layout.now }
+{
+    project.kept();
+}
+
+/// A placement has at most one layout: the same members, homes and direct lists, whoever makes it.
+pub fn layout_is_one(project: &Project, plan: &Plan)
+    requires { IsShared project.now plan.now }
+    ensures { AtMostOne (IsLayout project.now plan.now) }
+{
+    project.kept();
+}
+
+/// A placement has at most one count of members, and one of dependencies.
+pub fn counts_are_one(project: &Project, plan: &Plan)
+    ensures members { AtMostOne (IsMembersCount project.now plan.now) }
+    ensures deps { AtMostOne (IsDepsCount project.now plan.now) }
 {}

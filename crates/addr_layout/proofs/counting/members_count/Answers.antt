@@ -1,4 +1,4 @@
-use Rattle.std.proofs.Common.{◌≡◌, ◌+◌, ◌*◌, ◌≤◌, ◌<◌, ◌^◌, length, ap, ◌∙◌, arith}
+use Rattle.std.proofs.Common.{length, ap, ◌∙◌, arith}
 use Rattle.addr_layout.specs.Counts.{AreCounted}
 use Rattle.addr_layout.proofs.CountLemmas.{members-counted, total-more}
 use Rattle.addr_layout.proofs.RankLemmas.{read-at}

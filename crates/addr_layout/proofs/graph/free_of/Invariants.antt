@@ -1,6 +1,6 @@
-use Rattle.std.proofs.Common.{◌≡◌, ◌++◌, ℕ, ◌<◌, length, get_or, map, take, vec_len, Some}
+use Rattle.std.proofs.Common.{◌≡◌, take}
 use Rattle.std.specs.List.{filter}
-use Rattle.addr_layout.specs.Graph.{is_free, number_at, refs_at, AreBeside, AreRanks, AreRefRanks, AreSeeds, IsEntryRank}
+use Rattle.addr_layout.specs.Graph.{is_free}
 use Rattle.addr_layout.proofs.graph.free_of.Given as goal
 
 abbrev pub invariant-loop-rank : goal.invariant-loop-rank

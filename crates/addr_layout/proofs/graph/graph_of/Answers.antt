@@ -1,9 +1,9 @@
-use Rattle.std.proofs.Common.{◌≡◌, ℕ, List, Option, length, map, sym, ap, subst, ◌∙◌, arith}
+use Rattle.std.proofs.Common.{ℕ, List, Option, length, map, sym, ap, subst, ◌∙◌}
 use Rattle.std.specs.List.{filter}
 use Rattle.addr_base.specs.declared.ids.Guid.{Guid}
 use Rattle.addr_walks.specs.Places.{EachAt}
 use Rattle.addr_walks.specs.Rows.{AreBelow}
-use Rattle.addr_layout.specs.Graph.{AreBeside, AreRefRanks, AreSeeds, IsGraph, is_free}
+use Rattle.addr_layout.specs.Graph.{AreBeside, AreRefRanks, AreSeeds, is_free}
 use Rattle.addr_layout.specs.Members.{IsNumbered}
 use Rattle.addr_layout.specs.Owners.{AreOwners}
 use Rattle.addr_layout.proofs.GraphLemmas.{seeds-below, bundles-are, sized}

@@ -1,4 +1,4 @@
-use Rattle.std.proofs.Common.{◌≡◌, sym, ap, ◌∙◌, subst, map, List}
+use Rattle.std.proofs.Common.{sym, ap, ◌∙◌, subst, map, List}
 use Rattle.std.proofs.Common.{IsPermutation}
 use Rattle.addr_base.specs.declared.ids.Guid.{Guid}
 use Rattle.addr_project.specs.declared.model.Asset.{Asset}

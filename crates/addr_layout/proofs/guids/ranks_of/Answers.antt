@@ -1,6 +1,6 @@
-use Rattle.std.proofs.Common.{◌≡◌, ℕ, take, List, ◌+◌, sym, subst, refl, Some, arith}
+use Rattle.std.proofs.Common.{◌≡◌, ℕ, take, ◌+◌, sym, subst, Some}
 use Rattle.std.proofs.lemmas.List.{get_or_default}
-use Rattle.std.specs.List.{AllZip, slice_get}
+use Rattle.std.specs.List.{slice_get}
 use Rattle.addr_base.specs.declared.ids.Guid.{Guid}
 use Rattle.addr_layout.specs.Graph.{AreRanks}
 use Rattle.addr_walks.proofs.Zips.{zip-more}

@@ -1,8 +1,8 @@
-use Rattle.std.proofs.Common.{◌≡◌, ◌++◌, ℕ, ◌<◌, length, get_or, map, take, vec_len, Some}
+use Rattle.std.proofs.Common.{◌≡◌, length, Some}
 use Rattle.std.specs.List.{slice_get}
 use Rattle.addr_base.specs.declared.ids.Guid.{Guid}
 use Rattle.addr_walks.specs.Places.{EachAt}
-use Rattle.addr_layout.specs.Graph.{is_free, number_at, refs_at, AreBeside, AreRanks, AreRefRanks, AreSeeds, IsEntryRank}
+use Rattle.addr_layout.specs.Graph.{AreRefRanks}
 use Rattle.addr_layout.proofs.guids.refs_of.Given as goal
 
 abbrev pub invariant-loop-n : goal.invariant-loop-n

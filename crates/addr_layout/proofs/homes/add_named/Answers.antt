@@ -1,4 +1,4 @@
-use Rattle.std.proofs.Common.{◌≡◌, ℕ, Vec, Global, sym, ap, ◌∙◌}
+use Rattle.std.proofs.Common.{ℕ, Vec, Global, sym, ap, ◌∙◌}
 use Rattle.std.proofs.lemmas.List.{append-nil}
 use Rattle.addr_layout.specs.declared.model.RefHome.TheVariants.{Own, Bundle}
 use Rattle.addr_layout.proofs.HomeLemmas.{goes-on}

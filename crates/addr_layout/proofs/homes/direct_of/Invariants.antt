@@ -1,4 +1,4 @@
-use Rattle.std.proofs.Common.{◌≡◌, ◌++◌, ℕ, ◌<◌, length, get_or, map, take, vec_len, Some}
+use Rattle.std.proofs.Common.{◌≡◌, take}
 use Rattle.std.specs.List.{flat_map}
 use Rattle.addr_layout.specs.Homes.{bundles_named}
 use Rattle.addr_layout.proofs.homes.direct_of.Given as goal

@@ -1,4 +1,4 @@
-use Rattle.std.proofs.Common.{◌≡◌, ◌++◌, ℕ, ◌<◌, length, get_or, map, take, vec_len, Some}
+use Rattle.std.proofs.Common.{◌≡◌, map, take}
 use Rattle.addr_layout.specs.Homes.{home_at}
 use Rattle.addr_layout.proofs.homes.homes_of.Given as goal
 

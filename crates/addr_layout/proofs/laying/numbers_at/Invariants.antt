@@ -1,5 +1,5 @@
-use Rattle.std.proofs.Common.{◌≡◌, ◌++◌, ℕ, ◌<◌, length, get_or, map, take, vec_len, Some}
-use Rattle.addr_layout.specs.Graph.{is_free, number_at, refs_at, AreBeside, AreRanks, AreRefRanks, AreSeeds, IsEntryRank}
+use Rattle.std.proofs.Common.{◌≡◌, map, take}
+use Rattle.addr_layout.specs.Graph.{number_at}
 use Rattle.addr_layout.proofs.laying.numbers_at.Given as goal
 
 abbrev pub invariant-loop-r : goal.invariant-loop-r

@@ -1,4 +1,4 @@
-use Rattle.std.proofs.Common.{◌<◌, length, get_or, sym, ◌∙◌, arith}
+use Rattle.std.proofs.Common.{◌<◌, length, get_or, arith}
 use Rattle.std.proofs.lemmas.List.{get_or_default}
 use Rattle.addr_layout.proofs.OwnerLemmas.{replaces-more}
 use Rattle.addr_layout.proofs.placing.own_all.Goals as goal

@@ -1,4 +1,4 @@
-use Rattle.std.proofs.Common.{◌≡◌, ◌++◌, ℕ, ◌<◌, length, get_or, map, take, vec_len, Some}
+use Rattle.std.proofs.Common.{◌≡◌, take, vec_len}
 use Rattle.addr_layout.specs.Owners.{Replaces}
 use Rattle.addr_layout.proofs.placing.own_all.Given as goal
 

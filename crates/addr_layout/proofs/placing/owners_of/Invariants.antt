@@ -1,4 +1,4 @@
-use Rattle.std.proofs.Common.{◌≡◌, ◌++◌, ℕ, ◌<◌, length, get_or, map, take, vec_len, Some}
+use Rattle.std.proofs.Common.{◌≡◌, take, vec_len}
 use Rattle.addr_layout.specs.Owners.{AreOwners}
 use Rattle.addr_layout.proofs.placing.owners_of.Given as goal
 

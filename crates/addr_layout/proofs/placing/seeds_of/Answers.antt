@@ -1,7 +1,7 @@
-use Rattle.std.proofs.Common.{◌≡◌, ℕ, ◌+◌, ◌<◌, List, ◌∷◌, [], ◌++◌, length, get_or, Some, sym, ap, subst, ◌∙◌, arith}
+use Rattle.std.proofs.Common.{ℕ, ◌+◌, List, length, get_or, sym, ap, subst, ◌∙◌}
 use Rattle.std.proofs.lemmas.List.{length_push}
 use Rattle.std.proofs.lemmas.List.Elements.{Contains-get_or}
-use Rattle.std.specs.List.{AllZip, Contains, slice_get}
+use Rattle.std.specs.List.{AllZip, Contains}
 use Rattle.addr_walks.specs.Places.{EachAt}
 use Rattle.addr_walks.proofs.Lists.{EachAt-push}
 use Rattle.addr_layout.specs.Graph.{AreSeeds, IsEntryRank}
