@@ -32,7 +32,8 @@ pub trait Depot {
 
     /// The file with that name, or None where no file has it. A file of 2^32 bytes or more is a fault.
     fn read(&mut self, alloc: Global, name: &str) -> Result<Option<Vec<u8>>, DepotErr>
-        ensures content { IfOk result (λ found. IfSome (now self.old).files (λ fs. option_map (λ v. v.items) found ≡ file_at name.now fs)) }
+        ensures content { IfOk result
+            (λ found. IfSome (now self.old).files (λ fs. option_map (λ v. v.items) found ≡ file_at name.now fs)) }
         ensures small { IfOk result (λ found. IfSome found (λ v. vec_len v < 2 ^ 32)) }
         ensures same { SameStore (now self.old) (now self.new) }
         ensures cause { FaultRose (now self.old).faults (now self.new).faults result };

@@ -25,7 +25,8 @@ impl Guid {
     /// The GUID that 32 lower-case hex digits spell.
     pub fn parse(text: &str) -> Option<Guid>
         ensures reads { ReadsHex text.now (option_map (λ guid. guid.0) result) }
-        ensures again { (bytes : List ℕ) → Are16Bytes bytes → text.now ≡ hex_of bytes → result ≡ Some (record { 0 = bytes }) }
+        ensures again { (bytes : List ℕ) → Are16Bytes bytes → text.now ≡ hex_of bytes
+            → result ≡ Some (record { 0 = bytes }) }
     {
         match parse_hex(text.as_bytes()) {
             Some(bytes) => Some(Guid(bytes)),
@@ -38,7 +39,8 @@ impl Digest {
     /// The digest that 32 lower-case hex digits spell.
     pub fn parse(text: &str) -> Option<Digest>
         ensures reads { ReadsHex text.now (option_map (λ digest. digest.0) result) }
-        ensures again { (bytes : List ℕ) → Are16Bytes bytes → text.now ≡ hex_of bytes → result ≡ Some (record { 0 = bytes }) }
+        ensures again { (bytes : List ℕ) → Are16Bytes bytes → text.now ≡ hex_of bytes
+            → result ≡ Some (record { 0 = bytes }) }
     {
         match parse_hex(text.as_bytes()) {
             Some(bytes) => Some(Digest(bytes)),

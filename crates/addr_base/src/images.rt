@@ -44,5 +44,6 @@ pub trait Image {
 
     /// The object with that GUID. What is lent may borrow from the image or from the GUID that was asked for.
     fn object<'a>(&'a self, guid: &'a Guid) -> Option<Found<'a>>
-        ensures { MatchOption result (object_of self.now guid.now.0 ≡ None) (λ f. object_of self.now guid.now.0 ≡ Some (record { bytes = f.bytes.now; refs = f.refs.now })) };
+        ensures { MatchOption result (object_of self.now guid.now.0 ≡ None)
+            (λ f. object_of self.now guid.now.0 ≡ Some (record { bytes = f.bytes.now; refs = f.refs.now })) };
 }

@@ -49,7 +49,8 @@ impl MemDepot {
     pub fn fail_at(&mut self, call: u32, effect: bool) -> Result<(), NoMemory>
         ensures store { depot_store self.new ≡ depot_store self.old }
         ensures with { OnOk result (effect ≡ true → depot_effects self.new ≡ depot_effects self.old ++ call ∷ []) }
-        ensures without { OnOk result (effect ≡ false → (depot_plan self.new).fails.items ≡ (depot_plan self.old).fails.items ++ call ∷ []) }
+        ensures without { OnOk result
+            (effect ≡ false → (depot_plan self.new).fails.items ≡ (depot_plan self.old).fails.items ++ call ∷ []) }
         ensures effects { effect ≡ false → depot_effects self.new ≡ depot_effects self.old }
         ensures calls { (depot_plan self.new).calls ≡ (depot_plan self.old).calls }
     {
@@ -78,7 +79,8 @@ impl Depot for MemDepot {
     ghost now = { depot_store };
 
     fn read(&mut self, alloc: Global, name: &str) -> Result<Option<Vec<u8>>, DepotErr>
-        ensures content { IfOk result (λ found. option_map (λ v. v.items) found ≡ file_at name.now (depot_files self.old)) }
+        ensures content { IfOk result
+            (λ found. option_map (λ v. v.items) found ≡ file_at name.now (depot_files self.old)) }
         ensures small { IfOk result (λ found. IfSome found (λ v. vec_len v < 2 ^ 32)) }
         ensures same { SameStore (depot_store self.old) (depot_store self.new) }
         ensures cause { FaultRose (depot_store self.old).faults (depot_store self.new).faults result }
@@ -178,7 +180,8 @@ impl MemDepot {
 
     /// Puts a file before all others. A refused call changes nothing.
     fn lay(&mut self, alloc: Global, name: &str, bytes: &[u8]) -> Result<(), NoMemory>
-        ensures ok { OnOk result (self.new.puts.items ≡ self.old.puts.items ++ record { name = name.now; bytes = bytes.now } ∷ []) }
+        ensures ok { OnOk result
+            (self.new.puts.items ≡ self.old.puts.items ++ record { name = name.now; bytes = bytes.now } ∷ []) }
         ensures err { OnErr result (self.new.puts.items ≡ self.old.puts.items) }
         ensures same { self.new ≡ record self.old { puts = self.new.puts } }
     {

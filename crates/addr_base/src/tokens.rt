@@ -52,7 +52,8 @@ pub fn untoken_bytes(alloc: Global, token: &[u8]) -> Result<Option<Text>, NoMemo
 /// token is never empty and has neither a space, a comma nor a line end, and no mark such as `%-` is one.
 pub fn token_laws()
     ensures own { (a b : List ℕ) → IsUtf8 a → IsUtf8 b → token_of a ≡ token_of b → a ≡ b }
-    ensures back { (text : List ℕ) (found : Option (List ℕ)) → IsUtf8 text → ReadsToken (token_of text) found → found ≡ Some text }
+    ensures back { (text : List ℕ) (found : Option (List ℕ)) → IsUtf8 text → ReadsToken (token_of text) found
+        → found ≡ Some text }
     ensures filled { (text : List ℕ) → token_of text ≢ [] }
     ensures bytes { (text : List ℕ) → IsUtf8 text → AllPass is_token_byte (token_of text) }
     ensures marks { (bytes : List ℕ) → IsMark bytes → ReadsToken bytes None }

@@ -27,7 +27,8 @@ pub struct Nodes<'a> {
 
 /// The internal name in the path of a table.
 fn name_in(path: &[u8]) -> Option<Digest>
-    ensures { MatchOption result ((name : Digest) → Are16Bytes name.0 → path.now ≡ table_path name → ⊥) (λ name. Are16Bytes name.0 × (path.now ≡ table_path name)) }
+    ensures { MatchOption result ((name : Digest) → Are16Bytes name.0 → path.now ≡ table_path name → ⊥)
+        (λ name. Are16Bytes name.0 × (path.now ≡ table_path name)) }
 {
     let digits = after_word(path, PREFIX)?;
     let bytes = parse_hex(digits)?;
@@ -46,7 +47,8 @@ fn is_data_path(path: &[u8], table: &[u8]) -> bool
 
 /// The two nodes, where the bundle has exactly these.
 pub fn nodes_of(bundle: &Bundle) -> Option<Nodes<'_>>
-    ensures { MatchOption result ((name : Digest) (table content : NodePlace) → AreNodes bundle.now name table content → ⊥) (λ n. AreNodes bundle.now n.name n.table.now n.content.now) }
+    ensures { MatchOption result ((name : Digest) (table content : NodePlace)
+        → AreNodes bundle.now name table content → ⊥) (λ n. AreNodes bundle.now n.name n.table.now n.content.now) }
 {
     let nodes = bundle.nodes.as_slice();
     if nodes.len() != 2 {

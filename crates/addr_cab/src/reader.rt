@@ -140,7 +140,8 @@ fn rows_of<'a>(
     room: u64,
     from: Cursor<'a>,
 ) -> Result<(Vec<ObjectRow>, u64, Cursor<'a>), CabErr>
-    ensures { Gives (λ x. (x.0.items, x.1, tail x.2)) result (rows_at count outside.now room None 0 [] (tail from.entry)) }
+    ensures { Gives
+        (λ x. (x.0.items, x.1, tail x.2)) result (rows_at count outside.now room None 0 [] (tail from.entry)) }
 {
     let mut rows = Vec::new(alloc);
     let mut last = None;

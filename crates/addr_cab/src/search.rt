@@ -29,7 +29,9 @@ impl<'a> Ascending<'a> {
 
     /// The place of the object with a GUID.
     pub fn place_of(self, guid: Guid) -> Option<usize>
-        ensures place { MatchOption result (find (has_guid guid.0) self.entry.rows.now ≡ None) (λ i. (i < length self.entry.rows.now) × (find (has_guid guid.0) self.entry.rows.now ≡ slice_get self.entry.rows.now i)) }
+        ensures place { MatchOption result (find (has_guid guid.0) self.entry.rows.now ≡ None)
+            (λ i. (i < length self.entry.rows.now)
+            × (find (has_guid guid.0) self.entry.rows.now ≡ slice_get self.entry.rows.now i)) }
         ensures held { list_any (has_guid guid.0) self.entry.rows.now ≡ is_some result }
     {
         match self.search(guid) {

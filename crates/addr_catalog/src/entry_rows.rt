@@ -81,7 +81,8 @@ pub fn read_bundle(
     requires { holding.now ≡ keys_holding rows.now place }
     ensures exact { Gives faults.NoMemory (λ row. row) result (bundle_read lists.now rows.now place entry.now) }
     // An unknown provider is told before any memory is asked for.
-    ensures provider { role_of (text_at lists.now.providers entry.now.provider) ≡ None → result ≡ Err (faults.Provider place) }
+    ensures provider { role_of (text_at lists.now.providers entry.now.provider) ≡ None
+        → result ≡ Err (faults.Provider place) }
 {
     match role_of(text_at(lists.providers.as_slice(), entry.provider)) {
         Some(Role::Bundle) => {
@@ -131,7 +132,8 @@ pub fn read_asset(
 ) -> Result<Option<PlainAsset>, CatErr>
     requires held { holding.now ≡ keys_holding rows.now place }
     requires listed { bundles.now.lists ≡ bundle_lists rows.now bundles.now.numbers }
-    ensures { Gives faults.NoMemory (λ row. row) result (asset_read lists.now rows.now bundles.now.numbers place entry.now) }
+    ensures { Gives faults.NoMemory
+        (λ row. row) result (asset_read lists.now rows.now bundles.now.numbers place entry.now) }
 {
     if number_at(bundles.numbers.as_slice(), place).is_some() {
         return Ok(None);

@@ -10,7 +10,8 @@ use std::alloc::Global;
 
 /// What stands before the last `#`, and what behind it.
 fn around_mark(id: &str) -> Option<(&str, &str)>
-    ensures { MatchOption result (before_last is_mark id.now ≡ []) (λ p. (p.0.now ≡ before_last is_mark id.now) × (p.1.now ≡ after_last is_mark id.now)) }
+    ensures { MatchOption result (before_last is_mark id.now ≡ [])
+        (λ p. (p.0.now ≡ before_last is_mark id.now) × (p.1.now ≡ after_last is_mark id.now)) }
 {
     id.rsplit_once('#')
 }
@@ -29,7 +30,8 @@ fn is_run(text: &str) -> bool
 
 /// The number of a run of digits, where it fits a place in a list.
 fn number_of(text: &str) -> Option<usize>
-    ensures { MatchOption result ((n : ℕ) → number_of text.now ≡ Some n → 2 ^ 64 ≤ n) (λ n. number_of text.now ≡ Some n) }
+    ensures { MatchOption result ((n : ℕ) → number_of text.now ≡ Some n → 2 ^ 64 ≤ n)
+        (λ n. number_of text.now ≡ Some n) }
 {
     if !is_run(text) {
         return None;

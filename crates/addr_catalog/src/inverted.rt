@@ -28,7 +28,11 @@ fn push_once(numbers: &mut Items<u32>, number: u32) -> Result<(), NoMemory>
 fn add_list(lists: &mut Vec<Items<u32>>, number: u32, list: &[u32]) -> Result<(), NoMemory>
     requires within { AreNumbersBelow (length lists.old.items) list.now }
     ensures same { length lists.new.items ≡ length lists.old.items }
-    ensures added { (numbers : ℕ → List ℕ) → lists.old.items ≡ map numbers (range_with_len 0 (length lists.old.items)) → ((n : ℕ) → AreNumbersBelow number (numbers n)) → OnOk result (lists.new.items ≡ map (with_list number list.now numbers) (range_with_len 0 (length lists.old.items))) }
+    ensures added { (numbers : ℕ → List ℕ)
+        → lists.old.items ≡ map numbers (range_with_len 0 (length lists.old.items))
+        → ((n : ℕ) → AreNumbersBelow number (numbers n))
+        → OnOk result
+        (lists.new.items ≡ map (with_list number list.now numbers) (range_with_len 0 (length lists.old.items))) }
 {
     for n in list {
         push_once(&mut lists[*n as usize], number)?;

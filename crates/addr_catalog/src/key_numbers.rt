@@ -12,7 +12,8 @@ use std::alloc::Global;
 
 /// The texts of the bundles' keys, and then those of the assets' keys in the order of their numbers.
 fn key_texts<'a>(alloc: Global, locator: &'a Locator) -> Result<Vec<&'a str>, NoMemory>
-    ensures { IfOk result (λ texts. map (λ t. t.now) texts.items ≡ map (λ b. b.key) locator.now.bundles ++ locator.now.keys) }
+    ensures { IfOk result
+        (λ texts. map (λ t. t.now) texts.items ≡ map (λ b. b.key) locator.now.bundles ++ locator.now.keys) }
 {
     let mut texts = Vec::new(alloc);
     for bundle in locator.bundles() {
@@ -50,7 +51,8 @@ fn asset_key_numbers<'a>(
     locator: &'a Locator,
     asset: &AssetRow,
 ) -> Result<Items<u32>, NoMemory>
-    ensures { IfOk result (λ numbers. numbers ≡ asset_key_numbers (map (λ t. t.now) texts.now.once.items) locator.now asset.now) }
+    ensures { IfOk result
+        (λ numbers. numbers ≡ asset_key_numbers (map (λ t. t.now) texts.now.once.items) locator.now asset.now) }
 {
     let mut numbers = Items::new(alloc);
     for key in asset.keys.as_slice() {

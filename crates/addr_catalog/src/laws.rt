@@ -14,7 +14,8 @@ use addr_locate::Locator;
 /// Bytes are a catalogue or have a first fault, and never both.
 pub fn catalogue_laws()
     ensures either { (bytes : List ℕ) → IsDecided faults.NoMemory (catalogue_read bytes) }
-    ensures apart { (bytes : List ℕ) (c : Whole) (e : Fault) → catalogue_read bytes ≡ Ok c → catalogue_read bytes ≡ Err e → ⊥ }
+    ensures apart { (bytes : List ℕ) (c : Whole) (e : Fault) → catalogue_read bytes ≡ Ok c
+        → catalogue_read bytes ≡ Err e → ⊥ }
 {}
 
 /// The rows of tables that are written for a locator are read back as alike rows. Nothing runs.

@@ -58,7 +58,8 @@ fn add_new(
     found: &mut Items<BundleNo>,
     bundle: BundleNo,
 ) -> Result<(), NoMemory>
-    ensures once { (all : List BundleNo) → HasNumbers seen.old found.old → found.old ≡ distinct all → OnOk result (found.new ≡ distinct (all ++ bundle ∷ [])) }
+    ensures once { (all : List BundleNo) → HasNumbers seen.old found.old → found.old ≡ distinct all
+        → OnOk result (found.new ≡ distinct (all ++ bundle ∷ [])) }
     ensures has { HasNumbers seen.old found.old → OnOk result (HasNumbers seen.new found.new) }
 {
     if seen.insert(bundle.0)? {

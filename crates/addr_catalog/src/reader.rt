@@ -69,7 +69,8 @@ fn read_bundles(
 ) -> Result<Items<Option<BundleRow>>, CatErr>
     requires few { length rows.now.entries < 2 ^ 31 }
     requires held { keys.now ≡ map (keys_holding rows.now) (range_with_len 0 (length rows.now.entries)) }
-    ensures { Gives faults.NoMemory (λ bundles. bundles) result (read_each (bundle_read lists.now rows.now) 0 rows.now.entries) }
+    ensures { Gives faults.NoMemory
+        (λ bundles. bundles) result (read_each (bundle_read lists.now rows.now) 0 rows.now.entries) }
 {
     let mut bundles = Items::new(alloc);
     for (i, entry) in rows.entries.as_slice().iter().enumerate() {
@@ -90,7 +91,8 @@ fn read_assets(
     requires few { length rows.now.entries < 2 ^ 31 }
     requires few_bundles { length bundles.now < 2 ^ 31 }
     requires held { keys.now ≡ map (keys_holding rows.now) (range_with_len 0 (length rows.now.entries)) }
-    ensures { Gives faults.NoMemory (λ assets. assets) result (read_each (asset_read lists.now rows.now (numbers_from 0 bundles.now)) 0 rows.now.entries) }
+    ensures { Gives faults.NoMemory (λ assets. assets) result
+        (read_each (asset_read lists.now rows.now (numbers_from 0 bundles.now)) 0 rows.now.entries) }
 {
     let bundles = number_bundles(alloc, bundles, rows)?;
     let mut assets = Items::new(alloc);

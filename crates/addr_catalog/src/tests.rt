@@ -40,7 +40,9 @@ fn asset(
     first: &str,
     second: &str,
 ) -> Result<PlainAsset, NoMemory>
-    ensures { IfOk result (λ row. row ≡ record { id = id.now; kind = kind.now; deps = deps.now; keys = first.now ∷ second.now ∷ [] }) }
+    ensures { IfOk result
+        (λ row. row
+        ≡ record { id = id.now; kind = kind.now; deps = deps.now; keys = first.now ∷ second.now ∷ [] }) }
 {
     let mut texts = Items::new(alloc);
     texts.push(Text::copy_of(alloc, first)?)?;

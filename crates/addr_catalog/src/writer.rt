@@ -108,7 +108,8 @@ fn tables_of(alloc: Global, locator: &Locator, lists: &Lists) -> Result<Tables, 
 fn document_of(alloc: Global, catalogue: &Catalogue) -> Result<Document, NoMemory>
     requires { CanWrite catalogue.now.locator }
     ensures written { IfOk result (λ document. document ≡ document_of catalogue.now) }
-    ensures rows { OnOk result (rows_read (tables_written catalogue.now.locator) ≡ Ok (table_rows catalogue.now.locator)) }
+    ensures rows { OnOk result
+        (rows_read (tables_written catalogue.now.locator) ≡ Ok (table_rows catalogue.now.locator)) }
     ensures again { OnOk result (AllByRecursion HasOptions catalogue.now.locator.bundles) }
 {
     let lists = lists_of(alloc, &catalogue.locator)?;
@@ -151,7 +152,8 @@ pub fn write_catalog(alloc: Global, catalogue: &Catalogue) -> Result<Vec<u8>, No
     // It is the one text that is described.
     ensures text { IfOk result (λ bytes. bytes.items ≡ catalogue_text catalogue.now) }
     // It reads back as alike rows with the same state, where no two bundles have the same key.
-    ensures reads { IfOk result (λ bytes. HasDistinctKeys catalogue.now.locator → ReadsAlike bytes.items catalogue.now) }
+    ensures reads { IfOk result
+        (λ bytes. HasDistinctKeys catalogue.now.locator → ReadsAlike bytes.items catalogue.now) }
 {
     let bytes = write(alloc, catalogue)?;
     written_rows_read_back(&catalogue.locator);

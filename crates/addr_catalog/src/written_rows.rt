@@ -140,7 +140,8 @@ fn push_bundles(
     entries: &mut Items<EntryRow>,
 ) -> Result<(), NoMemory>
     requires { AreFew numbers.now.locator.now }
-    ensures put { OnOk result (entries.new ≡ entries.old ++ each_numbered (bundle_entry numbers.now.locator.now) 0 numbers.now.locator.now.bundles) }
+    ensures put { OnOk result (entries.new ≡ entries.old ++ each_numbered
+        (bundle_entry numbers.now.locator.now) 0 numbers.now.locator.now.bundles) }
     ensures again { OnOk result (AllByRecursion HasOptions numbers.now.locator.now.bundles) }
 {
     for (i, bundle) in numbers.locator.bundles().iter().enumerate() {
@@ -152,7 +153,8 @@ fn push_bundles(
 /// Appends the entries of the assets.
 fn push_assets(numbers: &KeyNumbers<'_>, entries: &mut Items<EntryRow>) -> Result<(), NoMemory>
     requires { AreFew numbers.now.locator.now }
-    ensures { OnOk result (entries.new ≡ entries.old ++ each_numbered (asset_entry numbers.now.locator.now) (length numbers.now.locator.now.bundles) numbers.now.locator.now.assets) }
+    ensures { OnOk result (entries.new ≡ entries.old ++ each_numbered (asset_entry numbers.now.locator.now)
+        (length numbers.now.locator.now.bundles) numbers.now.locator.now.assets) }
 {
     numbers.locator.are_rows();
     let first = numbers.locator.bundles().len();

@@ -99,7 +99,9 @@ fn as_kinds(alloc: Global, value: &Value) -> Result<Option<Items<Text>>, NoMemor
 }
 
 fn kinds_member(alloc: Global, object: &Map<String, Value>) -> Result<Items<Text>, DocErr>
-    ensures { Gives faults.NoMemory (λ t. t) result (or_fault (faults.Member 7) (required (list_of kind_of) (codes "m_resourceTypes") (members_view object.now.entries))) }
+    ensures { Gives faults.NoMemory (λ t. t) result
+        (or_fault (faults.Member 7)
+        (required (list_of kind_of) (codes "m_resourceTypes") (members_view object.now.entries))) }
 {
     let Some(value) = member(object, "m_resourceTypes") else {
         return Err(DocErr::Member { which: 7 });
@@ -111,7 +113,9 @@ fn kinds_member(alloc: Global, object: &Map<String, Value>) -> Result<Items<Text
 }
 
 fn prefixes_member(alloc: Global, object: &Map<String, Value>) -> Result<Items<Text>, DocErr>
-    ensures { Gives faults.NoMemory (λ t. t) result (or_fault (faults.Member 8) (optional texts_of [] (codes "m_InternalIdPrefixes") (members_view object.now.entries))) }
+    ensures { Gives faults.NoMemory (λ t. t) result
+        (or_fault (faults.Member 8)
+        (optional texts_of [] (codes "m_InternalIdPrefixes") (members_view object.now.entries))) }
 {
     let Some(value) = member(object, "m_InternalIdPrefixes") else {
         return Ok(Items::new(alloc));
@@ -123,7 +127,9 @@ fn prefixes_member(alloc: Global, object: &Map<String, Value>) -> Result<Items<T
 }
 
 fn state_member(object: &Map<String, Value>) -> Result<Option<Digest>, DocErr>
-    ensures { Gives faults.NoMemory (λ s. s) result (or_fault (faults.Member 9) (optional state_of None (codes "m_ContentState") (members_view object.now.entries))) }
+    ensures { Gives faults.NoMemory (λ s. s) result
+        (or_fault (faults.Member 9)
+        (optional state_of None (codes "m_ContentState") (members_view object.now.entries))) }
 {
     let Some(value) = member(object, "m_ContentState") else {
         return Ok(None);

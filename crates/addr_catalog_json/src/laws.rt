@@ -9,5 +9,6 @@ ghost use Rattle.addr_catalog_json.specs.declared.error.DocErr.TheVariants as fa
 /// Bytes are a document or have a first fault, and never both.
 pub fn document_laws()
     ensures either { (bytes : List ℕ) → IsDecided faults.NoMemory (document_read bytes) }
-    ensures apart { (bytes : List ℕ) (d : Whole) (e : Fault) → document_read bytes ≡ Ok d → document_read bytes ≡ Err e → ⊥ }
+    ensures apart { (bytes : List ℕ) (d : Whole) (e : Fault) → document_read bytes ≡ Ok d
+        → document_read bytes ≡ Err e → ⊥ }
 {}

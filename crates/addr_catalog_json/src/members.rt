@@ -21,7 +21,9 @@ pub fn text_member(
     key: &str,
     which: u8,
 ) -> Result<Text, DocErr>
-    ensures { Gives faults.NoMemory (λ t. t) result (or_fault (faults.Member which) (required as_str key.now (members_view object.now.entries))) }
+    ensures { Gives faults.NoMemory
+        (λ t. t) result
+        (or_fault (faults.Member which) (required as_str key.now (members_view object.now.entries))) }
 {
     match text_at(object, key) {
         Some(text) => Ok(Text::copy_of(alloc, text)?),
@@ -35,7 +37,9 @@ pub fn texts_member(
     key: &str,
     which: u8,
 ) -> Result<Items<Text>, DocErr>
-    ensures { Gives faults.NoMemory (λ t. t) result (or_fault (faults.Member which) (required texts_of key.now (members_view object.now.entries))) }
+    ensures { Gives faults.NoMemory
+        (λ t. t) result
+        (or_fault (faults.Member which) (required texts_of key.now (members_view object.now.entries))) }
 {
     let Some(value) = member(object, key) else {
         return Err(DocErr::Member { which });

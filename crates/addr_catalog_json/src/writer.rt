@@ -69,7 +69,8 @@ fn put_strings(
     members: &mut Map<String, Value>,
     strings: &Strings,
 ) -> Result<(), NoMemory>
-    ensures { OnOk result (members_view members.new.entries ≡ with_strings strings.now (members_view members.old.entries)) }
+    ensures { OnOk result
+        (members_view members.new.entries ≡ with_strings strings.now (members_view members.old.entries)) }
 {
     put_text(
         alloc,
@@ -103,7 +104,8 @@ fn put_state(
     members: &mut Map<String, Value>,
     state: Option<Digest>,
 ) -> Result<(), NoMemory>
-    ensures put { OnOk result (members_view members.new.entries ≡ with_digest state (members_view members.old.entries)) }
+    ensures put { OnOk result
+        (members_view members.new.entries ≡ with_digest state (members_view members.old.entries)) }
     ensures sixteen { IsWellStated state }
 {
     let Some(digest) = state else {

@@ -20,7 +20,8 @@ pub struct Course {
 impl Course {
     /// How far the operation is, if it isn't released.
     pub fn status(self) -> Result<OpStatus, NoHandle>
-        ensures { result ≡ (if self.released then Err (record {}) else Ok (unwrap_or self.failed (if self.missing == 0 then Ready else Pending))) }
+        ensures { result ≡ (if self.released then Err (record {}) else Ok
+            (unwrap_or self.failed (if self.missing == 0 then Ready else Pending))) }
     {
         if self.released {
             return Err(NoHandle);

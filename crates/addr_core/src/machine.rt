@@ -108,7 +108,8 @@ impl<I: Image + Drop> Core<I> {
 
     fn accept(&mut self, caller: u32, ask: Ask, needs: Items<BundleNo>) -> Result<OpId, NoMemory>
         requires needs { needs ≡ needs_of self.old.rows ask }
-        requires accepted { load_reply self.old.rows self.old.limit self.old.history ask ≡ Ok (record { 0 = loads_of self.old.history }) }
+        requires accepted { load_reply self.old.rows self.old.limit self.old.history ask ≡ Ok
+            (record { 0 = loads_of self.old.history }) }
         ensures number { IfOk result (λ op. op ≡ record { 0 = loads_of self.old.history }) }
         ensures machine { IfOk result (λ op. self.new ≡ grown self.old (Load op caller ask ∷ [])) }
         ensures err { OnErr result (self.new ≡ self.old) }

@@ -11,8 +11,11 @@ use addr_queue::Queue;
 /// Those of the bundles leave the queue that are queued with a count of one.
 pub fn leave_each(queue: &mut Queue, slots: &[Slot], needs: &[BundleNo])
     requires once { no_repeats needs.now ≡ true }
-    requires there { (b : _) → is_in b needs.now ≡ true → passes leaves slots.now b ≡ true → is_in b queue.old.bundles ≡ true }
-    ensures { queue.new ≡ record { room = queue.old.room; bundles = left_each (passes leaves slots.now) needs.now queue.old.bundles } }
+    requires there { (b : _) → is_in b needs.now ≡ true → passes leaves slots.now b ≡ true
+        → is_in b queue.old.bundles ≡ true }
+    ensures { queue.new
+        ≡ record { room = queue.old.room; bundles = left_each
+        (passes leaves slots.now) needs.now queue.old.bundles } }
 {
     for b in needs {
         leave(queue, leaves(slots, *b), *b);
@@ -21,7 +24,8 @@ pub fn leave_each(queue: &mut Queue, slots: &[Slot], needs: &[BundleNo])
 
 fn leave(queue: &mut Queue, leaves: bool, b: BundleNo)
     requires { leaves ≡ true → is_in b queue.old.bundles ≡ true }
-    ensures { queue.new ≡ record { room = queue.old.room; bundles = if leaves then filter (λ c. not (c.0 == b.0)) queue.old.bundles else queue.old.bundles } }
+    ensures { queue.new ≡ record { room = queue.old.room; bundles = if leaves then filter
+        (λ c. not (c.0 == b.0)) queue.old.bundles else queue.old.bundles } }
 {
     if leaves {
         queue.remove(b);
@@ -32,8 +36,11 @@ fn leave(queue: &mut Queue, leaves: bool, b: BundleNo)
 pub fn join_each(queue: &mut Queue, slots: &[Slot], needs: &[BundleNo])
     requires once { no_repeats needs.now ≡ true }
     requires below { (b : _) → is_in b needs.now ≡ true → b.0 < queue.old.room }
-    requires new { (b : _) → is_in b needs.now ≡ true → passes is_out slots.now b ≡ true → is_in b queue.old.bundles ≡ false }
-    ensures { queue.new ≡ record { room = queue.old.room; bundles = joined_each (passes is_out slots.now) needs.now queue.old.bundles } }
+    requires new { (b : _) → is_in b needs.now ≡ true → passes is_out slots.now b ≡ true
+        → is_in b queue.old.bundles ≡ false }
+    ensures { queue.new
+        ≡ record { room = queue.old.room; bundles = joined_each
+        (passes is_out slots.now) needs.now queue.old.bundles } }
 {
     for b in needs {
         join(queue, is_out(slots, *b), *b);
@@ -43,7 +50,8 @@ pub fn join_each(queue: &mut Queue, slots: &[Slot], needs: &[BundleNo])
 fn join(queue: &mut Queue, joins: bool, b: BundleNo)
     requires below { b.0 < queue.old.room }
     requires new { joins ≡ true → is_in b queue.old.bundles ≡ false }
-    ensures { queue.new ≡ record { room = queue.old.room; bundles = if joins then queue.old.bundles ++ b ∷ [] else queue.old.bundles } }
+    ensures { queue.new
+        ≡ record { room = queue.old.room; bundles = if joins then queue.old.bundles ++ b ∷ [] else queue.old.bundles } }
 {
     if joins {
         queue.push(b);

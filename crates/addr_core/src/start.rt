@@ -9,7 +9,9 @@ use std::alloc::Global;
 
 /// A slot for each bundle, all of them absent.
 pub fn no_slots(alloc: Global, count: usize) -> Result<Vec<Slot>, NoMemory>
-    ensures { IfOk result (λ slots. slots.items ≡ replicate count (record { count = 0; resident = false; fetcher = None; queued = false })) }
+    ensures { IfOk result
+        (λ slots. slots.items ≡ replicate count
+        (record { count = 0; resident = false; fetcher = None; queued = false })) }
 {
     let mut slots = Vec::with_capacity(alloc, count)?;
     for made in 0..count {

@@ -105,7 +105,8 @@ fn make_room(waits: &mut [Waiters], missing: bool, b: BundleNo) -> Result<(), No
 pub fn wait_each(waits: &mut [Waiters], slots: &[Slot], needs: &[BundleNo], op: u32)
     requires once { no_repeats needs.now ≡ true }
     requires room { HasRoom (passes is_missing slots.now) needs.now waits.old }
-    ensures { waiting_lists waits.new ≡ waited_each (passes is_missing slots.now) op needs.now (waiting_lists waits.old) }
+    ensures { waiting_lists waits.new ≡ waited_each (passes is_missing slots.now) op needs.now
+        (waiting_lists waits.old) }
 {
     for b in needs {
         wait(waits, is_missing(slots, *b), *b, op);
@@ -114,7 +115,9 @@ pub fn wait_each(waits: &mut [Waiters], slots: &[Slot], needs: &[BundleNo], op: 
 
 fn wait(waits: &mut [Waiters], missing: bool, b: BundleNo, op: u32)
     requires { missing ≡ true → (w : Waiting) → slice_get waits.old b.0 ≡ Some w → 0 < w.spare }
-    ensures lists { waiting_lists waits.new ≡ (if missing then change (λ ops. ops ++ op ∷ []) b.0 (waiting_lists waits.old) else waiting_lists waits.old) }
+    ensures lists { waiting_lists waits.new ≡
+        (if missing then change
+        (λ ops. ops ++ op ∷ []) b.0 (waiting_lists waits.old) else waiting_lists waits.old) }
     ensures others { (n : ℕ) → (n ≡ b.0 → ⊥) → slice_get waits.new n ≡ slice_get waits.old n }
 {
     let place = b.0 as usize;

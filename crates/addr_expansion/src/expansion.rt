@@ -13,7 +13,8 @@ use std::alloc::Global;
 
 /// What is kept of each variable's value, after as many rounds as there are variables.
 pub fn known(alloc: Global, variables: &[Var]) -> Result<Vec<Extent>, NoMemory>
-    ensures { IfOk result (λ table. table.items ≡ extents (outcome_of variables.now (length variables.now)) variables.now) }
+    ensures { IfOk result
+        (λ table. table.items ≡ extents (outcome_of variables.now (length variables.now)) variables.now) }
 {
     let mut table = unknown(alloc, variables)?;
     for _round in 0..variables.len() {
@@ -29,7 +30,8 @@ pub fn fill(
     table: &[Extent],
     text: &str,
 ) -> Result<Extent, NoMemory>
-    ensures { IfOk result (λ e. (lead : List ℕ → Outcome) → table.now ≡ extents lead variables.now → IsExtent e (filled variables.now lead text.now)) }
+    ensures { IfOk result (λ e. (lead : List ℕ → Outcome) → table.now ≡ extents lead variables.now
+        → IsExtent e (filled variables.now lead text.now)) }
 {
     let pieces = pieces_of(alloc, text)?;
     match pieces.split_first() {
@@ -52,7 +54,8 @@ fn fill_pieces(
     first: Extent,
     pieces: &[&str],
 ) -> Result<Extent, NoMemory>
-    ensures { IfOk result (λ e. (lead : List ℕ → Outcome) (a : Outcome) → table.now ≡ extents lead variables.now → IsExtent first a
+    ensures { IfOk result
+        (λ e. (lead : List ℕ → Outcome) (a : Outcome) → table.now ≡ extents lead variables.now → IsExtent first a
         → IsExtent e (fold (with_piece (of_name variables.now lead)) a (map (λ piece. piece.now) pieces.now))) }
 {
     let mut extent = first;
@@ -64,7 +67,8 @@ fn fill_pieces(
 
 /// One more round.
 pub fn round(alloc: Global, variables: &[Var], table: &[Extent]) -> Result<Vec<Extent>, NoMemory>
-    ensures { IfOk result (λ next. (lead : List ℕ → Outcome) → table.now ≡ extents lead variables.now → next.items ≡ extents (filled variables.now lead) variables.now) }
+    ensures { IfOk result (λ next. (lead : List ℕ → Outcome) → table.now ≡ extents lead variables.now
+        → next.items ≡ extents (filled variables.now lead) variables.now) }
 {
     let mut next = Vec::new(alloc);
     for variable in variables.iter() {
@@ -99,7 +103,8 @@ fn add_piece(
     before: Extent,
     piece: &str,
 ) -> Result<Extent, NoMemory>
-    ensures { IfOk result (λ e. (lead : List ℕ → Outcome) (a : Outcome) → table.now ≡ extents lead variables.now → IsExtent before a
+    ensures { IfOk result
+        (λ e. (lead : List ℕ → Outcome) (a : Outcome) → table.now ≡ extents lead variables.now → IsExtent before a
         → IsExtent e (with_piece (of_name variables.now lead) a piece.now)) }
 {
     let Some((name, plain)) = split_name(piece) else {
@@ -112,7 +117,8 @@ fn add_piece(
 }
 
 fn join_named(before: Extent, value: Option<&Extent>) -> Result<Extent, NoMemory>
-    ensures { IfOk result (λ e. (a o : Outcome) → IsExtent before a → MatchOption value.entry (o ≡ bad) (λ v. v.now ≡ extent_of o) → IsExtent e (joined a o)) }
+    ensures { IfOk result (λ e. (a o : Outcome) → IsExtent before a → MatchOption value.entry (o ≡ bad)
+        (λ v. v.now ≡ extent_of o) → IsExtent e (joined a o)) }
 {
     match value {
         Some(value) => {

@@ -58,7 +58,8 @@ fn after_circular(next: &Extent) -> Extent
 }
 
 fn after_whole(text: Text, next: &Extent) -> Result<Extent, NoMemory>
-    ensures { IfOk result (λ e. length text ≤ 1024 → (b : Outcome) → IsExtent next.now b → IsExtent e (joined (given text) b)) }
+    ensures { IfOk result
+        (λ e. length text ≤ 1024 → (b : Outcome) → IsExtent next.now b → IsExtent e (joined (given text) b)) }
 {
     match next {
         Extent::Bad => Ok(Extent::Bad),

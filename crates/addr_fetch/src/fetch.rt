@@ -51,7 +51,8 @@ pub trait Fetch {
         into: &mut P,
     ) -> Poured
         requires { limit < 2 ^ 64 - 1 }
-        ensures poured { (fed : List ℕ) → P.took into.old fed → PouredAs (λ bytes. P.took into.new (fed ++ bytes)) (λ answer. gives self.old internal_id.now limit answer self.new) result }
+        ensures poured { (fed : List ℕ) → P.took into.old fed → PouredAs (λ bytes. P.took into.new (fed ++ bytes))
+            (λ answer. gives self.old internal_id.now limit answer self.new) result }
         ensures fixed { P.fixed into.new ≡ P.fixed into.old };
 
     /// The file with that id as a whole.

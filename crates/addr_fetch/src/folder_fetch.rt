@@ -92,7 +92,8 @@ fn pour_file<R: Files, P: Pour>(
     into: &mut P,
 ) -> Ended
     requires { limit < 2 ^ 64 - 1 }
-    ensures ends { (fed : List ℕ) → P.took into.old fed → EndsAs (λ bytes. P.took into.new (fed ++ bytes)) limit result }
+    ensures ends { (fed : List ℕ) → P.took into.old fed → EndsAs
+        (λ bytes. P.took into.new (fed ++ bytes)) limit result }
     ensures fixed { P.fixed into.new ≡ P.fixed into.old }
 {
     if !is_below(id) {
@@ -116,7 +117,8 @@ fn pour_file<R: Files, P: Pour>(
 /// Pours what each read gives, up to the limit.
 fn pour_open<F: Read, P: Pour>(alloc: Global, file: &mut F, limit: u64, into: &mut P) -> Ended
     requires { limit < 2 ^ 64 - 1 }
-    ensures ends { (fed : List ℕ) → P.took into.old fed → EndsAs (λ bytes. P.took into.new (fed ++ bytes)) limit result }
+    ensures ends { (fed : List ℕ) → P.took into.old fed → EndsAs
+        (λ bytes. P.took into.new (fed ++ bytes)) limit result }
     ensures fixed { P.fixed into.new ≡ P.fixed into.old }
 {
     match vec![in alloc; 0; PIECE] {
@@ -128,7 +130,8 @@ fn pour_open<F: Read, P: Pour>(alloc: Global, file: &mut F, limit: u64, into: &m
 /// A file that grows past the limit meanwhile is too long.
 fn pour_reads<F: Read, P: Pour>(file: &mut F, buffer: &mut [u8], limit: u64, into: &mut P) -> Ended
     requires { limit < 2 ^ 64 - 1 }
-    ensures ends { (fed : List ℕ) → P.took into.old fed → EndsAs (λ bytes. P.took into.new (fed ++ bytes)) limit result }
+    ensures ends { (fed : List ℕ) → P.took into.old fed → EndsAs
+        (λ bytes. P.took into.new (fed ++ bytes)) limit result }
     ensures fixed { P.fixed into.new ≡ P.fixed into.old }
 {
     let mut total = 0;

@@ -7,7 +7,8 @@ use itoa::Buffer;
 
 /// What stands behind the word, where the text begins with it.
 pub fn after_word<'a>(text: &'a [u8], word: &[u8]) -> Option<&'a [u8]>
-    ensures found { MatchOption result ((rest : List ℕ) → text.now ≡ word.now ++ rest → ⊥) (λ rest. text.now ≡ word.now ++ rest.now) }
+    ensures found { MatchOption result ((rest : List ℕ) → text.now ≡ word.now ++ rest → ⊥)
+        (λ rest. text.now ≡ word.now ++ rest.now) }
     ensures only { IfSome result (λ rest. (other : List ℕ) → text.now ≡ word.now ++ other → other ≡ rest.now) }
 {
     if text.len() < word.len() {
@@ -102,8 +103,10 @@ pub fn short_number(text: &[u8]) -> Option<u16>
 
 /// A number, a space, and the rest of the text.
 pub fn number_then(text: &[u8]) -> Option<(u32, &[u8])>
-    ensures found { MatchOption result ((n : ℕ) (rest : List ℕ) → IsNumberThen text.now n rest → ⊥) (λ p. IsNumberThen text.now p.0 p.1.now) }
-    ensures only { IfSome result (λ p. (n : ℕ) (rest : List ℕ) → IsNumberThen text.now n rest → (n ≡ p.0) × (rest ≡ p.1.now)) }
+    ensures found { MatchOption result ((n : ℕ) (rest : List ℕ) → IsNumberThen text.now n rest → ⊥)
+        (λ p. IsNumberThen text.now p.0 p.1.now) }
+    ensures only { IfSome result
+        (λ p. (n : ℕ) (rest : List ℕ) → IsNumberThen text.now n rest → (n ≡ p.0) × (rest ≡ p.1.now)) }
 {
     match cut_at(text, b' ') {
         Some((digits, rest)) => match number(digits) {
@@ -116,7 +119,8 @@ pub fn number_then(text: &[u8]) -> Option<(u32, &[u8])>
 
 /// A word and then a number below 2 to the 64th.
 pub fn long_after(text: &[u8], word: &[u8]) -> Option<u64>
-    ensures { MatchOption result ((n : ℕ) → IsWordNumber 64 word.now text.now n → ⊥) (λ n. IsWordNumber 64 word.now text.now n) }
+    ensures { MatchOption result ((n : ℕ) → IsWordNumber 64 word.now text.now n → ⊥)
+        (λ n. IsWordNumber 64 word.now text.now n) }
 {
     let rest = after_word(text, word)?;
     long_number(rest)
@@ -124,7 +128,8 @@ pub fn long_after(text: &[u8], word: &[u8]) -> Option<u64>
 
 /// The same below 2 to the 32nd.
 pub fn number_after(text: &[u8], word: &[u8]) -> Option<u32>
-    ensures { MatchOption result ((n : ℕ) → IsWordNumber 32 word.now text.now n → ⊥) (λ n. IsWordNumber 32 word.now text.now n) }
+    ensures { MatchOption result ((n : ℕ) → IsWordNumber 32 word.now text.now n → ⊥)
+        (λ n. IsWordNumber 32 word.now text.now n) }
 {
     let rest = after_word(text, word)?;
     number(rest)
@@ -132,7 +137,8 @@ pub fn number_after(text: &[u8], word: &[u8]) -> Option<u32>
 
 /// The same below 2 to the 16th.
 pub fn short_after(text: &[u8], word: &[u8]) -> Option<u16>
-    ensures { MatchOption result ((n : ℕ) → IsWordNumber 16 word.now text.now n → ⊥) (λ n. IsWordNumber 16 word.now text.now n) }
+    ensures { MatchOption result ((n : ℕ) → IsWordNumber 16 word.now text.now n → ⊥)
+        (λ n. IsWordNumber 16 word.now text.now n) }
 {
     let rest = after_word(text, word)?;
     short_number(rest)
@@ -140,7 +146,8 @@ pub fn short_after(text: &[u8], word: &[u8]) -> Option<u16>
 
 /// A word, a number, a space and a number.
 pub fn two_numbers_after(text: &[u8], word: &[u8]) -> Option<(u32, u32)>
-    ensures { MatchOption result ((a b : ℕ) → IsWordPair word.now text.now a b → ⊥) (λ p. IsWordPair word.now text.now p.0 p.1) }
+    ensures { MatchOption result ((a b : ℕ) → IsWordPair word.now text.now a b → ⊥)
+        (λ p. IsWordPair word.now text.now p.0 p.1) }
 {
     let (a, rest) = number_then(after_word(text, word)?)?;
     let b = number(rest)?;

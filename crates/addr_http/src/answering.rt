@@ -135,7 +135,8 @@ fn look<D: Depot>(
     head_only: bool,
     name: &str,
 ) -> Result<Reply, NoMemory>
-    ensures told { IfOk result (Replies folder.now (D.now depot.old).files (D.now depot.old).faults (D.now depot.new).faults
+    ensures told { IfOk result
+        (Replies folder.now (D.now depot.old).files (D.now depot.old).faults (D.now depot.new).faults
         (Wants head_only name.now)) }
     ensures same { SameStore (D.now depot.old) (D.now depot.new) }
     ensures later { (D.now depot.old).faults ≤ (D.now depot.new).faults }

@@ -155,7 +155,8 @@ pub fn read_key(alloc: Global, bytes: &[u8], at: usize) -> Result<(Key, usize), 
     // What is read stands there.
     ensures found { IfOk result (λ x. KeyAt bytes.now at x.0 x.1) }
     // What stands there is read, unless memory is refused.
-    ensures only { (key : Key) (end : ℕ) → KeyAt bytes.now at key end → Gives faults.NoMemory (λ x. x) result (Ok (key, end)) }
+    ensures only { (key : Key) (end : ℕ) → KeyAt bytes.now at key end → Gives faults.NoMemory
+        (λ x. x) result (Ok (key, end)) }
     // Which fault it is, where it is one.
     ensures exact { Gives faults.NoMemory (λ x. x) result (key_read bytes.now at) }
     // Memory is asked for by keys that hold a text alone: what else stands there is told exactly.

@@ -118,7 +118,8 @@ fn put_text(into: &mut Vec<u8>, text: &str) -> Result<(), NoMemory>
 #[tactic(auto, using(crate::proofs::Growth::kept_then, crate::proofs::Growth::appended_then), unfolding(crate::specs::Format::key_text))]
 fn put_json(into: &mut Vec<u8>, assembly: &[u8], class: &[u8], text: &str) -> Result<(), NoMemory>
     requires { IsWritable (keys.Json assembly.now class.now text.now) }
-    ensures written { OnOk result (into.new.items ≡ into.old.items ++ key_text (keys.Json assembly.now class.now text.now)) }
+    ensures written { OnOk result
+        (into.new.items ≡ into.old.items ++ key_text (keys.Json assembly.now class.now text.now)) }
     ensures kept { take (length into.old.items) into.new.items ≡ into.old.items }
 {
     put_byte(into, 7)?;
@@ -172,7 +173,8 @@ pub fn write_key(key: &Key, into: &mut Vec<u8>) -> Result<(), NoMemory>
     ensures same { OnErr result (into.new.items ≡ into.old.items) }
     // What is written is a form of the key, and `read_key` gives the key back, up to the end of the bytes.
     ensures form { OnOk result (IsForm key.now (key_text key.now)) }
-    ensures again { OnOk result (key_read into.new.items (length into.old.items) ≡ Ok (key.now, length into.new.items)) }
+    ensures again { OnOk result
+        (key_read into.new.items (length into.old.items) ≡ Ok (key.now, length into.new.items)) }
 {
     let before = into.len();
     match put_key(into, key) {

@@ -92,7 +92,8 @@ impl Queue {
     /// Leaves the queue, from wherever it stands. Two links change.
     pub fn remove(&mut self, b: BundleNo)
         requires { is_among b self.old.bundles ≡ true }
-        ensures { self.new ≡ record { room = self.old.room; bundles = filter (λ c. not (c.0 == b.0)) self.old.bundles } }
+        ensures { self.new
+            ≡ record { room = self.old.room; bundles = filter (λ c. not (c.0 == b.0)) self.old.bundles } }
     {
         let place = b.0 as usize + 1;
         let before = self.prev[place];

@@ -8,7 +8,9 @@ use std::alloc::Global;
 
 /// The keys that the field spells, or None where it spells no list of keys.
 pub fn key_list(alloc: Global, field: &[u8]) -> Result<Option<Items<Text>>, NoMemory>
-    ensures { IfOk result (λ found. MatchOption found ((keys : List (List ℕ)) → AreKeys keys → field.now ≡ asked_keys_field keys → ⊥) (λ keys. AreKeys keys × (field.now ≡ asked_keys_field keys))) }
+    ensures { IfOk result (λ found. MatchOption found
+        ((keys : List (List ℕ)) → AreKeys keys → field.now ≡ asked_keys_field keys → ⊥)
+        (λ keys. AreKeys keys × (field.now ≡ asked_keys_field keys))) }
 {
     match token_list(alloc, field)? {
         Some(keys) => {
@@ -23,7 +25,9 @@ pub fn key_list(alloc: Global, field: &[u8]) -> Result<Option<Items<Text>>, NoMe
 }
 
 fn token_list(alloc: Global, field: &[u8]) -> Result<Option<Items<Text>>, NoMemory>
-    ensures { IfOk result (λ found. MatchOption found ((texts : List (List ℕ)) → AreTexts texts → field.now ≡ asked_keys_field texts → ⊥) (λ texts. AreTexts texts × (field.now ≡ asked_keys_field texts))) }
+    ensures { IfOk result (λ found. MatchOption found
+        ((texts : List (List ℕ)) → AreTexts texts → field.now ≡ asked_keys_field texts → ⊥)
+        (λ texts. AreTexts texts × (field.now ≡ asked_keys_field texts))) }
 {
     let mut keys = Items::new(alloc);
     let mut rest = field;

@@ -57,7 +57,8 @@ fn change(line: &[u8]) -> Option<Command>
     ensures release { IsNone result → (caller : ℕ) (op : OpId) → Spells line.now (Release caller op) → ⊥ }
     ensures take { IsNone result → (worker : ℕ) → Spells line.now (Take worker) → ⊥ }
     ensures done { IsNone result → (worker : ℕ) (b : BundleNo) → Spells line.now (Done worker b) → ⊥ }
-    ensures fail { IsNone result → (worker : ℕ) (b : BundleNo) (cause : Cause) → Spells line.now (Fail worker b cause) → ⊥ }
+    ensures fail { IsNone result → (worker : ℕ) (b : BundleNo) (cause : Cause)
+        → Spells line.now (Fail worker b cause) → ⊥ }
 {
     if let Some((caller, op)) = two_numbers_after(line, b"release ") {
         return Some(Command::Release {
@@ -78,7 +79,8 @@ fn change(line: &[u8]) -> Option<Command>
 }
 
 fn fail(line: &[u8]) -> Option<Command>
-    ensures { MatchOption result ((worker : ℕ) (b : BundleNo) (cause : Cause) → Spells line.now (Fail worker b cause) → ⊥) (λ command. Spells line.now command) }
+    ensures { MatchOption result ((worker : ℕ) (b : BundleNo) (cause : Cause)
+        → Spells line.now (Fail worker b cause) → ⊥) (λ command. Spells line.now command) }
 {
     let rest = after_word(line, b"fail ")?;
     let (worker, rest) = number_then(rest)?;
@@ -93,7 +95,8 @@ fn fail(line: &[u8]) -> Option<Command>
 
 /// The cause that a field of a `fail` line spells.
 fn given_cause(field: &[u8]) -> Option<Cause>
-    ensures { MatchOption result ((cause : Cause) → IsGivenCause cause → field.now ≡ cause_text cause → ⊥) (λ cause. IsGivenCause cause × (field.now ≡ cause_text cause)) }
+    ensures { MatchOption result ((cause : Cause) → IsGivenCause cause → field.now ≡ cause_text cause → ⊥)
+        (λ cause. IsGivenCause cause × (field.now ≡ cause_text cause)) }
 {
     if is_same(field, b"missing") {
         return Some(Cause::Missing);
@@ -111,7 +114,9 @@ fn given_cause(field: &[u8]) -> Option<Cause>
 }
 
 fn load(alloc: Global, line: &[u8]) -> Result<Option<Command>, NoMemory>
-    ensures { IfOk result (λ found. MatchOption found ((caller : ℕ) (keys : List (List ℕ)) → Spells line.now (Load caller false UseFirst None keys) → ⊥) (λ command. Spells line.now command)) }
+    ensures { IfOk result (λ found. MatchOption found
+        ((caller : ℕ) (keys : List (List ℕ)) → Spells line.now (Load caller false UseFirst None keys) → ⊥)
+        (λ command. Spells line.now command)) }
 {
     match load_line(line) {
         Some((caller, field)) => match key_list(alloc, field)? {
@@ -130,8 +135,11 @@ fn load(alloc: Global, line: &[u8]) -> Result<Option<Command>, NoMemory>
 
 /// The caller of a load, and the field of its keys.
 fn load_line(line: &[u8]) -> Option<(u32, &[u8])>
-    ensures found { MatchOption result ((caller : ℕ) (field : List ℕ) → IsLoadLine line.now caller field → ⊥) (λ p. IsLoadLine line.now p.0 p.1.now) }
-    ensures only { IfSome result (λ p. (caller : ℕ) (field : List ℕ) → IsLoadLine line.now caller field → (caller ≡ p.0) × (field ≡ p.1.now)) }
+    ensures found { MatchOption result ((caller : ℕ) (field : List ℕ) → IsLoadLine line.now caller field → ⊥)
+        (λ p. IsLoadLine line.now p.0 p.1.now) }
+    ensures only { IfSome result
+        (λ p. (caller : ℕ) (field : List ℕ) → IsLoadLine line.now caller field → (caller ≡ p.0)
+        × (field ≡ p.1.now)) }
 {
     let (caller, rest) = number_then(after_word(line, b"load ")?)?;
     let field = after_word(rest, b"one first %* ")?;

@@ -56,7 +56,8 @@ fn is_limit(n: u32) -> bool
 }
 
 fn limit_of(line: &[u8]) -> Option<u32>
-    ensures { MatchOption result ((n : ℕ) → IsLimit n → line.now ∷ [] ≡ limit_lines (Some n) → ⊥) (λ n. IsLimit n × (line.now ∷ [] ≡ limit_lines (Some n))) }
+    ensures { MatchOption result ((n : ℕ) → IsLimit n → line.now ∷ [] ≡ limit_lines (Some n) → ⊥)
+        (λ n. IsLimit n × (line.now ∷ [] ≡ limit_lines (Some n))) }
 {
     match number_after(line, b"limit ") {
         Some(limit) => { if is_limit(limit) { Some(limit) } else { None } }

@@ -37,7 +37,8 @@ pub fn serve<D: Depot, L: Listen, K: Sink>(
     out: &mut K,
 ) -> Ended
     requires { IsAhead (L.now listen.old).conns }
-    ensures serves { Serves folder.now (D.now depot.old).files connections (D.now depot.old).faults (D.now depot.new).faults result
+    ensures serves { Serves folder.now (D.now depot.old).files connections (D.now depot.old).faults
+        (D.now depot.new).faults result
         (L.now listen.old) (L.now listen.new) (K.now out.old).written (K.now out.new).written }
     ensures net { result ≡ Ended.Net → Rose (L.now listen.old).faults (L.now listen.new).faults }
     ensures sink { SinkCause result (K.now out.old).faults (K.now out.new).faults }
@@ -61,7 +62,8 @@ fn serve_from<D: Depot, L: Listen, K: Sink>(
 ) -> Ended
     requires ahead { IsAhead (L.now listen.old).conns }
     requires bound { IfSome (L.now listen.old).port (λ told. told ≡ port) }
-    ensures serves { Serves folder.now (D.now depot.old).files connections (D.now depot.old).faults (D.now depot.new).faults result
+    ensures serves { Serves folder.now (D.now depot.old).files connections (D.now depot.old).faults
+        (D.now depot.new).faults result
         (L.now listen.old) (L.now listen.new) (K.now out.old).written (K.now out.new).written }
     ensures net { result ≡ Ended.Net → Rose (L.now listen.old).faults (L.now listen.new).faults }
     ensures sink { SinkCause result (K.now out.old).faults (K.now out.new).faults }
@@ -89,7 +91,8 @@ fn serve_all<D: Depot, L: Listen, K: Sink>(
     out: &mut K,
 ) -> Ended
     requires { IsAhead (L.now listen.old).conns }
-    ensures serves { ServesAll folder.now (D.now depot.old).files connections (D.now depot.old).faults (D.now depot.new).faults result
+    ensures serves { ServesAll folder.now (D.now depot.old).files connections (D.now depot.old).faults
+        (D.now depot.new).faults result
         (L.now listen.old) (L.now listen.new) (K.now out.old).written (K.now out.new).written }
     ensures net { NetCause result (L.now listen.old).faults (L.now listen.new).faults }
     ensures sink { SinkCause result (K.now out.old).faults (K.now out.new).faults }
@@ -115,7 +118,8 @@ fn serve_next<D: Depot, L: Listen, K: Sink>(
     out: &mut K,
 ) -> Ended
     requires { IsAhead (L.now listen.old).conns }
-    ensures serves { ServesAll folder.now (D.now depot.old).files 1 (D.now depot.old).faults (D.now depot.new).faults result
+    ensures serves { ServesAll folder.now (D.now depot.old).files 1 (D.now depot.old).faults
+        (D.now depot.new).faults result
         (L.now listen.old) (L.now listen.new) (K.now out.old).written (K.now out.new).written }
     ensures net { NetCause result (L.now listen.old).faults (L.now listen.new).faults }
     ensures sink { SinkCause result (K.now out.old).faults (K.now out.new).faults }

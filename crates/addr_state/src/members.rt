@@ -20,7 +20,8 @@ pub fn text_member(
     key: &str,
     fault: StateErr,
 ) -> Result<Text, StateErr>
-    ensures { Gives faults.NoMemory (λ t. t) result (or_fault fault (required as_str key.now (members_view object.now.entries))) }
+    ensures { Gives faults.NoMemory
+        (λ t. t) result (or_fault fault (required as_str key.now (members_view object.now.entries))) }
 {
     match text_at(object, key) {
         Some(text) => Ok(Text::copy_of(alloc, text)?),
@@ -42,7 +43,8 @@ pub fn digest_member(
     key: &str,
     fault: StateErr,
 ) -> Result<Digest, StateErr>
-    ensures { Gives faults.NoMemory (λ d. d) result (or_fault fault (required digest_in key.now (members_view object.now.entries))) }
+    ensures { Gives faults.NoMemory
+        (λ d. d) result (or_fault fault (required digest_in key.now (members_view object.now.entries))) }
 {
     match digest_at(object, key) {
         Some(digest) => Ok(digest),
@@ -51,7 +53,8 @@ pub fn digest_member(
 }
 
 pub fn size_member(object: &Map<String, Value>, key: &str, fault: StateErr) -> Result<u64, StateErr>
-    ensures { Gives faults.NoMemory (λ n. n) result (or_fault fault (required size_of key.now (members_view object.now.entries))) }
+    ensures { Gives faults.NoMemory
+        (λ n. n) result (or_fault fault (required size_of key.now (members_view object.now.entries))) }
 {
     match size_at(object, key) {
         Some(size) => Ok(size),
@@ -88,7 +91,8 @@ pub fn guids_member(
     key: &str,
     fault: StateErr,
 ) -> Result<Items<Guid>, StateErr>
-    ensures { Gives faults.NoMemory (λ gs. gs) result (or_fault fault (required guids_of key.now (members_view object.now.entries))) }
+    ensures { Gives faults.NoMemory
+        (λ gs. gs) result (or_fault fault (required guids_of key.now (members_view object.now.entries))) }
 {
     let Some(value) = member(object, key) else {
         return Err(fault);

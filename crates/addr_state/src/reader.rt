@@ -94,7 +94,8 @@ fn read_row(
     value: &Value,
 ) -> Result<StateBundle, StateErr>
     requires { length before.now ≤ 65536 }
-    ensures { HasGuids earlier.now (entries_of before.now) → Gives faults.NoMemory (λ b. b) result (row_read before.now (view value.now)) }
+    ensures { HasGuids earlier.now (entries_of before.now) → Gives faults.NoMemory
+        (λ b. b) result (row_read before.now (view value.now)) }
 {
     let fault = StateErr::Row {
         n: before.len() as u32,
@@ -126,7 +127,8 @@ fn read_rows(alloc: Global, values: &[Value]) -> Result<Items<StateBundle>, Stat
 }
 
 fn rows_at(object: &Map<String, Value>) -> Option<&[Value]>
-    ensures few { option_map (λ vs. items_view vs.now) result ≡ required few_items (codes "bundles") (members_view object.now.entries) }
+    ensures few { option_map
+        (λ vs. items_view vs.now) result ≡ required few_items (codes "bundles") (members_view object.now.entries) }
     ensures bound { IfSome result (λ vs. length vs.now ≤ 65536) }
 {
     match array_at(object, "bundles") {
@@ -142,7 +144,9 @@ fn rows_at(object: &Map<String, Value>) -> Option<&[Value]>
 }
 
 fn fixed_member(alloc: Global, object: &Map<String, Value>) -> Result<Items<Text>, StateErr>
-    ensures { Gives faults.NoMemory (λ ts. ts) result (or_fault faults.Member (required fixed_of (codes "fixed") (members_view object.now.entries))) }
+    ensures { Gives faults.NoMemory
+        (λ ts. ts) result
+        (or_fault faults.Member (required fixed_of (codes "fixed") (members_view object.now.entries))) }
 {
     let Some(value) = member(object, "fixed") else {
         return Err(StateErr::Member);
@@ -160,7 +164,8 @@ fn fixed_member(alloc: Global, object: &Map<String, Value>) -> Result<Items<Text
 }
 
 fn version_member(object: &Map<String, Value>) -> Result<u64, StateErr>
-    ensures { Gives faults.NoMemory (λ n. n) result (or_fault faults.Member (required version_of (codes "version") (members_view object.now.entries))) }
+    ensures { Gives faults.NoMemory (λ n. n) result
+        (or_fault faults.Member (required version_of (codes "version") (members_view object.now.entries))) }
 {
     match size_at(object, "version") {
         Some(1) => Ok(1),

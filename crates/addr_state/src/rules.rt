@@ -149,7 +149,8 @@ fn are_entries(
     objects: &[Guid],
     entries: &[Guid],
 ) -> Result<bool, NoMemory>
-    ensures { (before : List GuidOf) → HasGuids earlier.now before → IfOk result (λ good. good ≡ list_all (is_entry before objects.now) entries.now) }
+    ensures { (before : List GuidOf) → HasGuids earlier.now before → IfOk result
+        (λ good. good ≡ list_all (is_entry before objects.now) entries.now) }
 {
     let objects = set_of(alloc, objects)?;
     Ok(are_new_in(earlier, &objects, entries))
@@ -169,7 +170,8 @@ fn are_both(a: bool, b: bool) -> bool
 
 /// Whether the lists of a bundle keep the rules, behind the entries of earlier ones.
 pub fn has_lists(alloc: Global, earlier: &BTreeSet<Guid>, b: &StateBundle) -> Result<bool, NoMemory>
-    ensures { (before : List GuidOf) → HasGuids earlier.now before → IfOk result (λ good. good ≡ has_lists before b.now) }
+    ensures { (before : List GuidOf) → HasGuids earlier.now before → IfOk result
+        (λ good. good ≡ has_lists before b.now) }
 {
     let fit = are_entries(alloc, earlier, b.objects.as_slice(), b.entries.as_slice())?;
     let ascend = do_ascend(b);

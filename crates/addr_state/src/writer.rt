@@ -94,7 +94,8 @@ fn bundles_tree(alloc: Global, bundles: &[StateBundle]) -> Result<Value, NoMemor
 
 #[tactic(auto, unfolding(crate::specs::within::Put::with_parts))]
 fn put_parts(alloc: Global, members: &mut Map<String, Value>, state: &State) -> Result<(), NoMemory>
-    ensures put { OnOk result (members_view members.new.entries ≡ with_parts state.now (members_view members.old.entries)) }
+    ensures put { OnOk result
+        (members_view members.new.entries ≡ with_parts state.now (members_view members.old.entries)) }
     ensures sixteen { OnOk result (All HasIds state.now.bundles) }
 {
     let bundles = bundles_tree(alloc, state.bundles.as_slice())?;

@@ -37,8 +37,10 @@ fn bucket_key(
     place: u32,
     bucket: &Bucket,
 ) -> Result<Key, TableErr>
-    ensures exact { (before : List Key) → HasForms seen.old before → length before ≡ place → Gives errors.NoMemory (λ k. k) result (bucket_key bytes.now before bucket.now) }
-    ensures more { (before : List Key) → HasForms seen.old before → IfOk result (λ key. HasForms seen.new (before ++ key ∷ [])) }
+    ensures exact { (before : List Key) → HasForms seen.old before → length before ≡ place → Gives errors.NoMemory
+        (λ k. k) result (bucket_key bytes.now before bucket.now) }
+    ensures more { (before : List Key) → HasForms seen.old before → IfOk result
+        (λ key. HasForms seen.new (before ++ key ∷ [])) }
 {
     if bucket.offset >= FIRST_NEGATIVE {
         return Err(TableErr::Key { bucket: place });
@@ -64,8 +66,10 @@ fn bucket_read(
     bucket: &Bucket,
 ) -> Result<Key, TableErr>
     requires { length parts.now.entries < 2 ^ 32 }
-    ensures exact { (before : List Key) → HasForms seen.old before → length before ≡ place → Gives errors.NoMemory (λ k. k) result (bucket_read parts.now.keys (length parts.now.entries) before bucket.now) }
-    ensures more { (before : List Key) → HasForms seen.old before → IfOk result (λ key. HasForms seen.new (before ++ key ∷ [])) }
+    ensures exact { (before : List Key) → HasForms seen.old before → length before ≡ place → Gives errors.NoMemory
+        (λ k. k) result (bucket_read parts.now.keys (length parts.now.entries) before bucket.now) }
+    ensures more { (before : List Key) → HasForms seen.old before → IfOk result
+        (λ key. HasForms seen.new (before ++ key ∷ [])) }
 {
     let key = bucket_key(alloc, parts.keys.as_slice(), seen, place, bucket)?;
     if !are_within(parts.entries.len() as u32, bucket.numbers.as_slice()) {
@@ -83,7 +87,8 @@ fn are_within(bound: u32, numbers: &[u32]) -> bool
 fn keys_of(alloc: Global, parts: &Parts) -> Result<Vec<Key>, TableErr>
     requires few { length parts.now.entries < 2 ^ 32 }
     requires fewer { length parts.now.buckets < 2 ^ 32 }
-    ensures exact { Gives errors.NoMemory (λ v. v.items) result (keys_read parts.now.keys (length parts.now.entries) [] parts.now.buckets) }
+    ensures exact { Gives errors.NoMemory
+        (λ v. v.items) result (keys_read parts.now.keys (length parts.now.entries) [] parts.now.buckets) }
     ensures many { IfOk result (λ v. vec_len v ≡ length parts.now.buckets) }
 {
     let mut keys = Vec::new(alloc);
@@ -178,7 +183,8 @@ fn entries_of(
     keys: u32,
 ) -> Result<Vec<EntryRow>, TableErr>
     requires { length parts.now.entries < 2 ^ 32 }
-    ensures { Gives errors.NoMemory (λ v. v.items) result (entries_read tables.now parts.now.extras keys [] parts.now.entries) }
+    ensures { Gives errors.NoMemory
+        (λ v. v.items) result (entries_read tables.now parts.now.extras keys [] parts.now.entries) }
 {
     let mut rows = Vec::new(alloc);
     for fields in parts.entries.as_slice() {

@@ -12,6 +12,8 @@ ghost use Rattle.addr_tables.specs.declared.rows.Tables.{Tables as TablesOf};
 pub fn table_laws()
     ensures either { (tables : TablesOf) → IsDecided faults.NoMemory (rows_read tables) }
     ensures read { (tables : TablesOf) (rows : RowsOf) → StandFor tables rows → rows_read tables ≡ Ok rows }
-    ensures stand { (tables : TablesOf) (rows : RowsOf) → AreTexts tables → rows_read tables ≡ Ok rows → StandFor tables rows }
-    ensures apart { (tables : TablesOf) (rows : RowsOf) (e : Fault) → StandFor tables rows → rows_read tables ≡ Err e → ⊥ }
+    ensures stand { (tables : TablesOf) (rows : RowsOf) → AreTexts tables → rows_read tables ≡ Ok rows
+        → StandFor tables rows }
+    ensures apart { (tables : TablesOf) (rows : RowsOf) (e : Fault) → StandFor tables rows
+        → rows_read tables ≡ Err e → ⊥ }
 {}

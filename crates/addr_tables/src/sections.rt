@@ -99,7 +99,8 @@ fn buckets_of(alloc: Global, bytes: &[u8]) -> Result<Vec<Bucket>, TableErr>
 
 #[tactic(auto, unfolding(crate::specs::Faults::fields_of))]
 fn fields_first(numbers: &[u32]) -> Option<(Fields, &[u32])>
-    ensures front { MatchOption result (fields_of numbers.now ≡ []) (λ x. fields_of numbers.now ≡ x.0 ∷ fields_of x.1.now) }
+    ensures front { MatchOption result (fields_of numbers.now ≡ [])
+        (λ x. fields_of numbers.now ≡ x.0 ∷ fields_of x.1.now) }
     ensures shorter { IfSome result (λ x. length x.1.now < length numbers.now) }
 {
     let [

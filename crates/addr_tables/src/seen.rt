@@ -15,8 +15,10 @@ use std::collections::BTreeSet;
 /// Whether the key wasn't there before. Its form is in the set from then on.
 pub fn is_new(alloc: Global, seen: &mut BTreeSet<Vec<u8>>, key: &Key) -> Result<bool, NoMemory>
     requires { IsWritable key.now }
-    ensures told { (keys : List Key) → HasForms seen.old keys → IfOk result (λ new. new ≡ not (list_any (is_same_key key.now) keys)) }
-    ensures more { (keys : List Key) → HasForms seen.old keys → IfOk result (λ new. HasForms seen.new (keys ++ key.now ∷ [])) }
+    ensures told { (keys : List Key) → HasForms seen.old keys → IfOk result
+        (λ new. new ≡ not (list_any (is_same_key key.now) keys)) }
+    ensures more { (keys : List Key) → HasForms seen.old keys → IfOk result
+        (λ new. HasForms seen.new (keys ++ key.now ∷ [])) }
 {
     let mut form = Vec::new(alloc);
     write_key(key, &mut form)?;

@@ -98,7 +98,8 @@ fn put_refs(text: &mut String, refs: &[RefTo]) -> Result<(), NoMemory>
 }
 
 fn put_more_refs(text: &mut String, refs: &[RefTo]) -> Result<(), NoMemory>
-    ensures { OnOk result (string_bytes text.new ≡ string_bytes text.old ++ flat_map (λ more. 44 ∷ ref_text more) refs.now) }
+    ensures { OnOk result
+        (string_bytes text.new ≡ string_bytes text.old ++ flat_map (λ more. 44 ∷ ref_text more) refs.now) }
 {
     for more in refs {
         let more = RefText(*more);

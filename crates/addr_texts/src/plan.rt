@@ -40,7 +40,8 @@ fn is_unmarked(marks: &[bool], n: u32) -> bool
 
 fn put_entries(text: &mut String, project: &Project, entries: &[u32]) -> Result<(), NoMemory>
     requires { All (λ x. x < length project.now.entries) entries.now }
-    ensures { OnOk result (string_bytes text.new ≡ string_bytes text.old ++ flat_map (entry_line project.now) entries.now) }
+    ensures { OnOk result
+        (string_bytes text.new ≡ string_bytes text.old ++ flat_map (entry_line project.now) entries.now) }
 {
     for x in entries {
         put_entry(text, project, *x)?;
@@ -66,7 +67,8 @@ fn put_copies(
     members: &[u32],
 ) -> Result<(), NoMemory>
     requires { All (λ n. n < length project.now.assets) members.now }
-    ensures { OnOk result (string_bytes text.new ≡ string_bytes text.old ++ flat_map (copy_line project.now) (filter (is_unmarked marks.now) members.now)) }
+    ensures { OnOk result (string_bytes text.new ≡ string_bytes text.old ++ flat_map (copy_line project.now)
+        (filter (is_unmarked marks.now) members.now)) }
 {
     for n in members {
         if is_unmarked(marks, *n) {
@@ -117,7 +119,8 @@ fn put_block(
 ) -> Result<(), NoMemory>
     requires entries { All (λ x. x < length project.now.entries) bundle.now.entries }
     requires members { All (λ n. n < length project.now.assets) members.now }
-    ensures { OnOk result (string_bytes text.new ≡ string_bytes text.old ++ block_text project.now b (block_of marks.now bundle.now members.now deps.now)) }
+    ensures { OnOk result (string_bytes text.new ≡ string_bytes text.old ++ block_text project.now b
+        (block_of marks.now bundle.now members.now deps.now)) }
 {
     let name = bundle.name.as_str();
     writeln!(text, "bundle {b} {name}")?;

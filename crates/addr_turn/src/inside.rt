@@ -106,7 +106,8 @@ impl<'t, 'p, S: Told> Inside<'t, 'p, S> {
         ensures spent { result.is_recorded ≡ true }
         ensures name { result.pass.ghost_name ≡ self.entry.pass.ghost_name }
         ensures state { result.state ≡ self.entry.state }
-        ensures recorded { HasRecorded S.entries S.fixed S.number (view self.entry.pass.now) self.entry.state (view result.pass.now) }
+        ensures recorded { HasRecorded S.entries S.fixed S.number (view self.entry.pass.now) self.entry.state
+            (view result.pass.now) }
     {
         let Inside {
             turns,

@@ -31,7 +31,8 @@ impl Told for Tally {
 }
 
 fn add(tally: &mut Tally, number: u32) -> bool
-    ensures { MatchBool result (tally.new.numbers.items ≡ tally.old.numbers.items ++ number ∷ []) (tally.new.numbers.items ≡ tally.old.numbers.items) }
+    ensures { MatchBool result (tally.new.numbers.items ≡ tally.old.numbers.items ++ number ∷ [])
+        (tally.new.numbers.items ≡ tally.old.numbers.items) }
 {
     tally.numbers.push(number).is_ok()
 }
@@ -41,7 +42,8 @@ pub(crate) fn add_once<R: Wait>(rt: &R, turns: &Turns<Tally>, pass: &mut Pass<Ta
     requires { IsPassOf turns.now pass.old }
     ensures pass { IsPassOf turns.now pass.new }
     ensures number { (view pass.new).number ≡ (view pass.old).number }
-    ensures mine { MatchBool result ((view pass.new).mine ≡ (view pass.old).mine ++ (view pass.old).number ∷ []) ((view pass.new).mine ≡ (view pass.old).mine) }
+    ensures mine { MatchBool result ((view pass.new).mine ≡ (view pass.old).mine ++ (view pass.old).number ∷ [])
+        ((view pass.new).mine ≡ (view pass.old).mine) }
 {
     let number = pass.number();
     let mut inside = turns.enter(rt, pass);

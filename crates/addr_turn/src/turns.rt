@@ -61,8 +61,10 @@ impl<S: Told> Turns<S> {
     /// The answer for want of memory never comes, since a pass takes none: it would hand the pass back.
     pub fn split(&self, pass: Pass<S>, share: u32) -> Result<(Pass<S>, Pass<S>), Pass<S>>
         requires { IsPassOf self.now pass × (0 < share) × (share ≤ (view pass).spare) }
-        ensures kept { IfOk result (λ p. IsPassOf self.now p.0 × (view p.0 ≡ kept_view (with_share share (view pass)))) }
-        ensures given { IfOk result (λ p. IsPassOf self.now p.1 × (view p.1 ≡ given_view (with_share share (view pass)))) }
+        ensures kept { IfOk result
+            (λ p. IsPassOf self.now p.0 × (view p.0 ≡ kept_view (with_share share (view pass)))) }
+        ensures given { IfOk result
+            (λ p. IsPassOf self.now p.1 × (view p.1 ≡ given_view (with_share share (view pass)))) }
         ensures domains { IfOk result (λ p. SharedOut (view pass) (view p.0) (view p.1)) }
         ensures succeeds { IsOk result }
         ensures back { IfErr result (λ p. p ≡ pass) }
@@ -89,7 +91,8 @@ impl<S: Told> Turns<S> {
         requires { IsPassOf self.now first × IsPassOf self.now second }
         ensures pass { IsPassOf self.now result × (view result ≡ met_view (view first) (view second)) }
         ensures knows { KnowsSome S.number (view result) }
-        ensures one_history { IsPrefix (view first).seen (view result).seen × IsPrefix (view second).seen (view result).seen }
+        ensures one_history { IsPrefix (view first).seen (view result).seen
+            × IsPrefix (view second).seen (view result).seen }
         ensures domains { SharedOut (view result) (view first) (view second) × AreApart (view first) (view second) }
     {
         let mut both = first;
