@@ -85,7 +85,8 @@ fn matching_first(
     keys: &[Option<KeyNo>],
 ) -> Result<Items<RowNo>, NoMemory>
     requires { ListsRows rows.now postings.now }
-    ensures { IfOk result (λ found. found ≡ first_filled (map (λ key. rows_where (is_match kind key) rows.now) keys.now)) }
+    ensures { IfOk result
+        (λ found. found ≡ first_filled (map (λ key. rows_where (is_match kind key) rows.now) keys.now)) }
 {
     for key in keys {
         let found = matching(alloc, rows, postings, kind, *key)?;
@@ -103,7 +104,8 @@ fn add_numbers(
     kind: Kind,
     listed: &[RowNo],
 ) -> Result<(), NoMemory>
-    ensures { OnOk result (numbers.new.items ≡ numbers.old.items ++ map (λ r. r.0) (filter (is_kind_at kind rows.now) listed.now)) }
+    ensures { OnOk result
+        (numbers.new.items ≡ numbers.old.items ++ map (λ r. r.0) (filter (is_kind_at kind rows.now) listed.now)) }
 {
     for row in listed {
         if is_kind_at(kind, rows, *row) {
@@ -149,7 +151,8 @@ fn matching_some(
     keys: &[Option<KeyNo>],
 ) -> Result<Items<RowNo>, NoMemory>
     requires { ListsRows rows.now postings.now }
-    ensures { IfOk result (λ found. found ≡ rows_where (λ row. list_any (λ key. is_match kind key row) keys.now) rows.now) }
+    ensures { IfOk result
+        (λ found. found ≡ rows_where (λ row. list_any (λ key. is_match kind key row) keys.now) rows.now) }
 {
     let mut numbers = numbers_of(alloc, rows, postings, kind, keys)?;
     numbers.sort_unstable();
@@ -250,7 +253,8 @@ fn add_new(
     found: &mut Items<BundleNo>,
     bundle: BundleNo,
 ) -> Result<(), NoMemory>
-    ensures { (before : List BundleNo) → AreFound before found.old seen.old → OnOk result (AreFound (before ++ bundle ∷ []) found.new seen.new) }
+    ensures { (before : List BundleNo) → AreFound before found.old seen.old
+        → OnOk result (AreFound (before ++ bundle ∷ []) found.new seen.new) }
 {
     if seen.insert(bundle.0)? {
         found.push(bundle)?;
@@ -264,7 +268,8 @@ fn add_deps(
     found: &mut Items<BundleNo>,
     deps: &[BundleNo],
 ) -> Result<(), NoMemory>
-    ensures { (before : List BundleNo) → AreFound before found.old seen.old → OnOk result (AreFound (before ++ deps.now) found.new seen.new) }
+    ensures { (before : List BundleNo) → AreFound before found.old seen.old
+        → OnOk result (AreFound (before ++ deps.now) found.new seen.new) }
 {
     for dep in deps {
         add_new(seen, found, *dep)?;

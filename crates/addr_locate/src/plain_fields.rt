@@ -9,8 +9,11 @@ use std::alloc::Global;
 
 /// A token's text, and what stands behind its space.
 pub(crate) fn token_then(alloc: Global, text: &[u8]) -> Result<Option<(Text, &[u8])>, NoMemory>
-    ensures found { IfOk result (λ found. MatchOption found ((t rest : List ℕ) → IsTokenThen text.now t rest → ⊥) (λ p. IsTokenThen text.now p.0 p.1.now)) }
-    ensures only { IfOk result (λ found. IfSome found (λ p. (t rest : List ℕ) → IsTokenThen text.now t rest → (t ≡ p.0) × (rest ≡ p.1.now))) }
+    ensures found { IfOk result (λ found. MatchOption found ((t rest : List ℕ) → IsTokenThen text.now t rest → ⊥)
+        (λ p. IsTokenThen text.now p.0 p.1.now)) }
+    ensures only { IfOk result
+        (λ found. IfSome found
+        (λ p. (t rest : List ℕ) → IsTokenThen text.now t rest → (t ≡ p.0) × (rest ≡ p.1.now))) }
 {
     let Some((token, rest)) = cut_at(text, b' ') else {
         return Ok(None);
@@ -23,8 +26,10 @@ pub(crate) fn token_then(alloc: Global, text: &[u8]) -> Result<Option<(Text, &[u
 
 /// A number below 2 to the 64th, and what stands behind its space.
 pub(crate) fn size_then(text: &[u8]) -> Option<(u64, &[u8])>
-    ensures found { MatchOption result ((n : ℕ) (rest : List ℕ) → IsSizeThen text.now n rest → ⊥) (λ p. IsSizeThen text.now p.0 p.1.now) }
-    ensures only { IfSome result (λ p. (n : ℕ) (rest : List ℕ) → IsSizeThen text.now n rest → (n ≡ p.0) × (rest ≡ p.1.now)) }
+    ensures found { MatchOption result ((n : ℕ) (rest : List ℕ) → IsSizeThen text.now n rest → ⊥)
+        (λ p. IsSizeThen text.now p.0 p.1.now) }
+    ensures only { IfSome result
+        (λ p. (n : ℕ) (rest : List ℕ) → IsSizeThen text.now n rest → (n ≡ p.0) × (rest ≡ p.1.now)) }
 {
     match cut_at(text, b' ') {
         Some((digits, rest)) => match long_number(digits) {
@@ -37,8 +42,10 @@ pub(crate) fn size_then(text: &[u8]) -> Option<(u64, &[u8])>
 
 /// A digest, and what stands behind its space.
 pub(crate) fn digest_then(text: &[u8]) -> Option<(Digest, &[u8])>
-    ensures found { MatchOption result ((d : Digest) (rest : List ℕ) → IsDigestThen text.now d rest → ⊥) (λ p. IsDigestThen text.now p.0 p.1.now) }
-    ensures only { IfSome result (λ p. (d : Digest) (rest : List ℕ) → IsDigestThen text.now d rest → (d ≡ p.0) × (rest ≡ p.1.now)) }
+    ensures found { MatchOption result ((d : Digest) (rest : List ℕ) → IsDigestThen text.now d rest → ⊥)
+        (λ p. IsDigestThen text.now p.0 p.1.now) }
+    ensures only { IfSome result
+        (λ p. (d : Digest) (rest : List ℕ) → IsDigestThen text.now d rest → (d ≡ p.0) × (rest ≡ p.1.now)) }
 {
     match cut_at(text, b' ') {
         Some((digits, rest)) => match parse_hex(digits) {

@@ -85,8 +85,10 @@ fn no_text_twice(alloc: Global, keys: &[Text]) -> Result<bool, NoMemory>
 
 /// One number or more, with a comma between each two.
 fn number_list(alloc: Global, field: &[u8]) -> Result<Option<Items<BundleNo>>, NoMemory>
-    ensures found { IfOk result (λ found. MatchOption found ((deps : List BundleNo) → AreNumbers field.now deps → ⊥) (λ deps. AreNumbers field.now deps)) }
-    ensures only { IfOk result (λ found. IfSome found (λ deps. (other : List BundleNo) → AreNumbers field.now other → other ≡ deps)) }
+    ensures found { IfOk result (λ found. MatchOption found
+        ((deps : List BundleNo) → AreNumbers field.now deps → ⊥) (λ deps. AreNumbers field.now deps)) }
+    ensures only { IfOk result
+        (λ found. IfSome found (λ deps. (other : List BundleNo) → AreNumbers field.now other → other ≡ deps)) }
 {
     let mut deps = Items::new(alloc);
     let mut rest = field;
@@ -108,8 +110,10 @@ fn number_list(alloc: Global, field: &[u8]) -> Result<Option<Items<BundleNo>>, N
 
 /// One token or more, with a comma between each two.
 fn token_list(alloc: Global, field: &[u8]) -> Result<Option<Items<Text>>, NoMemory>
-    ensures found { IfOk result (λ found. MatchOption found ((keys : List (List ℕ)) → AreTokens field.now keys → ⊥) (λ keys. AreTokens field.now keys)) }
-    ensures only { IfOk result (λ found. IfSome found (λ keys. (other : List (List ℕ)) → AreTokens field.now other → other ≡ keys)) }
+    ensures found { IfOk result (λ found. MatchOption found
+        ((keys : List (List ℕ)) → AreTokens field.now keys → ⊥) (λ keys. AreTokens field.now keys)) }
+    ensures only { IfOk result
+        (λ found. IfSome found (λ keys. (other : List (List ℕ)) → AreTokens field.now other → other ≡ keys)) }
 {
     let mut keys = Items::new(alloc);
     let mut rest = field;

@@ -34,7 +34,8 @@ pub fn read_rows(alloc: Global, bytes: &[u8]) -> Result<Locator, RowsErr>
 
 /// The bytes behind the heading's line.
 fn after_heading(bytes: &[u8]) -> Option<&[u8]>
-    ensures found { MatchOption result ((more : List (List ℕ)) → lines_of bytes.now ≡ heading ∷ more → ⊥) (λ rest. lines_of bytes.now ≡ heading ∷ lines_of rest.now) }
+    ensures found { MatchOption result ((more : List (List ℕ)) → lines_of bytes.now ≡ heading ∷ more → ⊥)
+        (λ rest. lines_of bytes.now ≡ heading ∷ lines_of rest.now) }
     ensures room { IfSome result (λ rest. length rest.now + 11 ≤ length bytes.now) }
 {
     let (line, rest) = next_line(bytes)?;

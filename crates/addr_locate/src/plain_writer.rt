@@ -29,7 +29,8 @@ pub fn write_rows(alloc: Global, locator: &Locator) -> Result<Text, NoMemory>
 }
 
 fn push_bundles(alloc: Global, text: &mut String, bundles: &[BundleRow]) -> Result<(), NoMemory>
-    ensures written { OnOk result (string_bytes text.new ≡ string_bytes text.old ++ ended (map bundle_line bundles.now)) }
+    ensures written { OnOk result
+        (string_bytes text.new ≡ string_bytes text.old ++ ended (map bundle_line bundles.now)) }
     ensures form { OnOk result (AllByRecursion IsBundleRow bundles.now) }
 {
     for bundle in bundles {
@@ -39,7 +40,8 @@ fn push_bundles(alloc: Global, text: &mut String, bundles: &[BundleRow]) -> Resu
 }
 
 fn push_bundle(alloc: Global, text: &mut String, bundle: &BundleRow) -> Result<(), NoMemory>
-    ensures written { OnOk result (string_bytes text.new ≡ string_bytes text.old ++ (bundle_line bundle.now ++ 10 ∷ [])) }
+    ensures written { OnOk result
+        (string_bytes text.new ≡ string_bytes text.old ++ (bundle_line bundle.now ++ 10 ∷ [])) }
     ensures form { OnOk result (IsBundleRow bundle.now) }
 {
     let key = token(alloc, bundle.key.as_str())?;
@@ -58,7 +60,8 @@ fn push_assets(
     locator: &Locator,
     assets: &[AssetRow],
 ) -> Result<(), NoMemory>
-    ensures written { OnOk result (string_bytes text.new ≡ string_bytes text.old ++ ended (map asset_line (map (plain_asset locator.now) assets.now))) }
+    ensures written { OnOk result (string_bytes text.new ≡ string_bytes text.old ++ ended
+        (map asset_line (map (plain_asset locator.now) assets.now))) }
     ensures form { OnOk result (AllByRecursion HasTexts (map (plain_asset locator.now) assets.now)) }
 {
     for asset in assets {
@@ -73,7 +76,9 @@ fn push_asset(
     locator: &Locator,
     asset: &AssetRow,
 ) -> Result<(), NoMemory>
-    ensures written { OnOk result (string_bytes text.new ≡ string_bytes text.old ++ (asset_line (plain_asset locator.now asset.now) ++ 10 ∷ [])) }
+    ensures written { OnOk result
+        (string_bytes text.new ≡ string_bytes text.old ++
+        (asset_line (plain_asset locator.now asset.now) ++ 10 ∷ [])) }
     ensures form { OnOk result (HasTexts (plain_asset locator.now asset.now)) }
 {
     let id = token(alloc, asset.id.as_str())?;
@@ -116,8 +121,10 @@ fn push_keys(
     locator: &Locator,
     keys: &[KeyNo],
 ) -> Result<(), NoMemory>
-    ensures written { OnOk result (string_bytes text.new ≡ string_bytes text.old ++ keys_field (map (λ k. text_at locator.now.keys k.0) (primary_first keys.now))) }
-    ensures form { OnOk result (AllByRecursion IsUtf8 (map (λ k. text_at locator.now.keys k.0) (primary_first keys.now))) }
+    ensures written { OnOk result (string_bytes text.new ≡ string_bytes text.old ++ keys_field
+        (map (λ k. text_at locator.now.keys k.0) (primary_first keys.now))) }
+    ensures form { OnOk result
+        (AllByRecursion IsUtf8 (map (λ k. text_at locator.now.keys k.0) (primary_first keys.now))) }
 {
     let Some((first, others)) = keys.split_first() else {
         text.push_str("%-")?;
@@ -141,7 +148,8 @@ fn push_more_keys(
     locator: &Locator,
     keys: &[KeyNo],
 ) -> Result<(), NoMemory>
-    ensures written { OnOk result (string_bytes text.new ≡ string_bytes text.old ++ flat_map (λ k. 44 ∷ token_of (text_at locator.now.keys k.0)) keys.now) }
+    ensures written { OnOk result (string_bytes text.new ≡ string_bytes text.old ++ flat_map
+        (λ k. 44 ∷ token_of (text_at locator.now.keys k.0)) keys.now) }
     ensures form { OnOk result (AllByRecursion IsUtf8 (map (λ k. text_at locator.now.keys k.0) keys.now)) }
 {
     for key in keys {
@@ -152,7 +160,8 @@ fn push_more_keys(
 }
 
 fn push_key(alloc: Global, text: &mut String, locator: &Locator, key: KeyNo) -> Result<(), NoMemory>
-    ensures written { OnOk result (string_bytes text.new ≡ string_bytes text.old ++ token_of (text_at locator.now.keys key.0)) }
+    ensures written { OnOk result
+        (string_bytes text.new ≡ string_bytes text.old ++ token_of (text_at locator.now.keys key.0)) }
     ensures form { OnOk result (IsUtf8 (text_at locator.now.keys key.0)) }
 {
     let token = token(alloc, key_text(locator, key))?;

@@ -29,7 +29,8 @@ fn post(postings: &mut [Items<RowNo>], key: KeyNo, row: RowNo) -> Result<(), NoM
 }
 
 fn post_row(postings: &mut [Items<RowNo>], keys: &[KeyNo], row: RowNo) -> Result<(), NoMemory>
-    ensures { OnOk result (postings.new ≡ change_each (λ rows. rows ++ row ∷ []) (map (λ k. k.0) keys.now) postings.old) }
+    ensures { OnOk result
+        (postings.new ≡ change_each (λ rows. rows ++ row ∷ []) (map (λ k. k.0) keys.now) postings.old) }
 {
     for key in keys {
         post(postings, *key, row)?;

@@ -24,7 +24,8 @@ pub(crate) fn add_text<'a>(
     once: &mut Items<Text>,
     text: &'a str,
 ) -> Result<(), NoMemory>
-    ensures { (before : List (List ℕ)) → AreListed before once.old seen.old → OnOk result (AreListed (before ++ text.now ∷ []) once.new seen.new) }
+    ensures { (before : List (List ℕ)) → AreListed before once.old seen.old
+        → OnOk result (AreListed (before ++ text.now ∷ []) once.new seen.new) }
 {
     if seen.insert(text, ())?.is_some() {
         return Ok(());
@@ -41,7 +42,8 @@ pub(crate) fn add_texts<'a>(
     once: &mut Items<Text>,
     texts: &'a [Text],
 ) -> Result<(), NoMemory>
-    ensures { (before : List (List ℕ)) → AreListed before once.old seen.old → OnOk result (AreListed (before ++ texts.now) once.new seen.new) }
+    ensures { (before : List (List ℕ)) → AreListed before once.old seen.old
+        → OnOk result (AreListed (before ++ texts.now) once.new seen.new) }
 {
     for text in texts {
         add_text(alloc, seen, once, text.as_str())?;
