@@ -1,4 +1,6 @@
+pub mod BundleLemmas
 pub mod ClassLemmas
+pub mod DigestLemmas
 pub mod EntryLemmas
 pub mod ListLemmas
 pub mod NameLemmas

@@ -17,5 +17,5 @@ mod tests;
 
 pub use bundles::{Plan, PlanBundle};
 pub use error::PlanErr;
-pub use laws::placement_laws;
+pub use laws::{name_laws, placement_laws};
 pub use placement::plan;
