@@ -5,5 +5,6 @@ pub mod EntryLemmas
 pub mod ListLemmas
 pub mod NameLemmas
 pub mod PlacedLemmas
+pub mod PlainLemmas
 pub mod SameLemmas
 pub mod UniqueLemmas

@@ -12,6 +12,7 @@ mod error;
 mod laws;
 mod naming;
 mod placement;
+mod plain;
 #[cfg(test)]
 mod tests;
 
@@ -19,3 +20,4 @@ pub use bundles::{Plan, PlanBundle};
 pub use error::PlanErr;
 pub use laws::{name_laws, placement_laws};
 pub use placement::plan;
+pub use plain::names_are_plain;
