@@ -19,26 +19,8 @@ use Rattle.addr_pack.specs.Naming.{IsNamed, IsNameOf}
 use Rattle.addr_pack.proofs.ClassLemmas.{below_or_at}
 use Rattle.addr_pack.proofs.SameLemmas.{one_name}
 
-never_none : {A : Type 0} (a b c : Option A) (x : A) → option_or a (option_or b (option_or c (Some x))) ≡ None → ⊥
-never_none None None None x is = absurd (cc)
-never_none None None (Some y) x is = absurd (cc)
-never_none None (Some y) c x is = absurd (cc)
-never_none (Some y) b c x is = absurd (cc)
-
-too_many : (variables : List Var) (groups : List Group) (refs : List (List Guid)) (labels : List (List (List ℕ))) → nat_lt 65536 (length labels) ≡ true → count_fault variables groups refs labels ≡ None → ⊥
-unfolding count_fault
-too_many variables groups refs labels above is =
-    never_none (over limit.Variables 64 (length variables)) (over limit.Groups 1024 (length groups)) (over limit.Assets 65536 (length refs)) (OverLimit limit.Entries (length labels)) (rw above at is)
-
-few_counted : (variables : List Var) (groups : List Group) (refs : List (List Guid)) (labels : List (List (List ℕ))) → count_fault variables groups refs labels ≡ None → length labels ≤ 65536
-few_counted variables groups refs labels is = by_test (nat_lt 65536 (length labels)) refl
-  where
-    by_test : (t : Bool) → nat_lt 65536 (length labels) ≡ t → length labels ≤ 65536
-    by_test true above = absurd (too_many variables groups refs labels above is)
-    by_test false below = grind (arith, nat_tests)
-
 pub few_entries : (p : Project) → IsKept p → length p.entries ≤ 65536
-few_entries p kept = rw (length-map p.entries (λ (e : Entry). e.labels)) at (few_counted p.variables p.groups _ _ kept.counts)
+few_entries p kept = kept.bounds.entries
 
 pub named_from : (p : Project) (x : ℕ) (e : Entry) (name : List ℕ) → slice_get p.entries x ≡ Some e → IsNameOf p e name → IsNamed p x e.group name
 named_from p x e name is named = (e, is, refl, named)

@@ -1,7 +1,10 @@
+pub mod BundleLemmas
 pub mod ClassLemmas
+pub mod DigestLemmas
 pub mod EntryLemmas
 pub mod ListLemmas
 pub mod NameLemmas
 pub mod PlacedLemmas
+pub mod PlainLemmas
 pub mod SameLemmas
 pub mod UniqueLemmas

@@ -4,3 +4,4 @@ pub mod Placement
 pub mod LongNames
 pub mod Classes
 pub mod Laws
+pub mod BundleNames

@@ -1,13 +1,15 @@
 -- Names that are too long for a bundle.
 use Rattle.std.specs.Prelude.{ℕ, ◌≡◌, ◌<◌, List, length}
+use Rattle.addr_project.specs.declared.limit.Limit.TheVariants as limit
+use Rattle.addr_project.specs.Limits.{most}
 use Rattle.addr_project.specs.Model.{Project}
 use Rattle.addr_pack.specs.declared.error.PlanErr.{PlanErr}
 use Rattle.addr_pack.specs.declared.error.PlanErr.TheVariants.{NameTooLong, NoMemory}
 use Rattle.addr_pack.specs.Naming.{IsNamed}
 
--- an entry stands in a bundle whose name has this many bytes, which are more than the 200 that a name may have
+-- an entry stands in a bundle whose name has this many bytes, which are more than a name may have
 abbrev pub HasLongName : Project → ℕ → ℕ → Type 0
-HasLongName p x size = (group : ℕ) × (name : List ℕ) × IsNamed p x group name × (size ≡ length name) × (200 < size)
+HasLongName p x size = (group : ℕ) × (name : List ℕ) × IsNamed p x group name × (size ≡ length name) × (most limit.BundleName < size)
 
 -- no bundle has too long a name
 abbrev pub NamesFit : Project → Type 0

@@ -12,10 +12,12 @@ mod error;
 mod laws;
 mod naming;
 mod placement;
+mod plain;
 #[cfg(test)]
 mod tests;
 
 pub use bundles::{Plan, PlanBundle};
 pub use error::PlanErr;
-pub use laws::placement_laws;
+pub use laws::{name_laws, placement_laws};
 pub use placement::plan;
+pub use plain::names_are_plain;

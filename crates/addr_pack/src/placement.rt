@@ -12,12 +12,9 @@ use crate::class::Class;
 use crate::error::PlanErr;
 use crate::naming::entry_name;
 use addr_base::{Items, NoMemory, Text};
-use addr_project::Project;
+use addr_project::{Limit, Project};
 use std::alloc::Global;
 use std::collections::BTreeMap;
-
-/// The most bytes that the name of a bundle may have: its file's name has 40 bytes more, and usual file systems take 255.
-const MAX_NAME: usize = 200;
 
 /// The bundles of a full build. Takes time as sorting the entries by their names does, and memory as these names.
 pub fn plan(alloc: Global, project: &Project) -> Result<Plan, PlanErr>
@@ -41,10 +38,11 @@ fn classes_of(alloc: Global, project: &Project) -> Result<BTreeMap<String, Class
     let mut classes = BTreeMap::new(alloc);
     for (row, entry) in entries.iter().enumerate() {
         let name = entry_name(alloc, project, entry)?;
-        if name.len() > MAX_NAME {
+        let length = name.len() as u64;
+        if length > Limit::BundleName.most() {
             return Err(PlanErr::NameTooLong {
                 row: row as u32,
-                length: name.len() as u64,
+                length,
             });
         }
         add_entry(alloc, &mut classes, name, entry.group, row as u32)?;

@@ -11,16 +11,16 @@ overflow_cast-result c = omega (arith, few_entries c.args.project.now c.kept.ens
 pub overflow_cast-row : goal.overflow_cast-row
 overflow_cast-row c = omega (arith, few_entries c.args.project.now c.kept.ensures, ap length c.entries-entries.ensures)
 
-pub returns-then-len-gt-MAX_NAME-clause-refused : goal.returns-then-len-gt-MAX_NAME-clause-refused
-returns-then-len-gt-MAX_NAME-clause-refused c =
+pub returns-then-length-most-clause-refused : goal.returns-then-length-most-clause-refused
+returns-then-length-most-clause-refused c =
     let p = c.args.project.now in
     let entry : Entry = c.index-entries-row.result in
     let entries = c.entries-entries.result.now in
     let name : List ℕ = string_bytes c.in_ok-name.name in
     let at = slice_get_read entries (length entries) c.loop-row.row entry refl c.loop-row-test.true c.index-entries-row.is in
     let named = named_from p c.loop-row.row entry name (rw c.entries-entries.ensures at at) c.in_ok-name.ensures in
-    let size : c.len-then-len-gt-MAX_NAME.result ≡ length name = search (rules, c.len-then-len-gt-MAX_NAME.ensures) in
-    let above : 200 < c.len-then-len-gt-MAX_NAME.result = omega (arith, c.len.ensures, c.len-then-len-gt-MAX_NAME.ensures) in
+    let size : c.len-length.result ≡ length name = search (rules, c.len-length.ensures) in
+    let above : 200 < c.len-length.result = omega (arith, c.len-length.ensures, c.most.ensures) in
     ((entry.group, name, named, size, above), c.loop-row.invariant.short)
 
 pub loop-row-preserved : goal.loop-row-preserved
@@ -31,7 +31,7 @@ loop-row-preserved c =
     let name : List ℕ = string_bytes c.in_ok-name.name in
     let at = slice_get_read entries (length entries) c.loop-row.row entry refl c.loop-row-test.true c.index-entries-row.is in
     let named = named_from p c.loop-row.row entry name (rw c.entries-entries.ensures at at) c.in_ok-name.ensures in
-    let size : c.len.result ≡ length name = search (rules, c.len.ensures) in
+    let size : c.len-length.result ≡ length name = search (rules, c.len-length.ensures) in
     record {
       classes = classes_more p c.kept.ensures c.loop-row.row entry.group name c.loop-row.classes c.add_entry.new.classes c.loop-row.invariant.classes named c.in_ok-add_entry.ensures;
       short = none_long p c.loop-row.row entry.group name c.loop-row.invariant.short named (omega arith);

@@ -1,0 +1,12 @@
+use Rattle.std.proofs.Common.{ℕ, List, sym, subst}
+use Rattle.std.proofs.lemmas.List.{take_all}
+use Rattle.hex.specs.Hex.{IsBytes}
+use Rattle.addr_walks.specs.Places.{EachAt}
+use Rattle.addr_pack.proofs.PlainLemmas.{more-at}
+use Rattle.addr_pack.proofs.plain.labels_are_bytes.Goals as goal
+
+pub loop-i-preserved : goal.loop-i-preserved
+loop-i-preserved c = more-at (λ (k : ℕ) (label : List ℕ). IsBytes label) c.args.labels.now c.loop-i.i c.index-labels-i.result c.loop-i-test.true (sym c.index-labels-i.is) (λ k. c.text_is_bytes.ensures) c.loop-i.invariant
+
+pub returns : goal.returns
+returns c = subst (EachAt (λ (k : ℕ) (label : List ℕ). IsBytes label)) (take_all c.loop-i.i c.args.labels.now c.loop-i-test.false) c.loop-i.invariant

@@ -1,0 +1,7 @@
+use Rattle.std.proofs.Common.{take}
+use Rattle.hex.specs.Hex.{IsBytes}
+use Rattle.addr_walks.specs.Places.{EachAt}
+use Rattle.addr_pack.proofs.plain.labels_are_bytes.Given as goal
+
+abbrev pub invariant-loop-i : goal.invariant-loop-i
+invariant-loop-i l = EachAt (λ k label. IsBytes label) (take l.i l.labels)
