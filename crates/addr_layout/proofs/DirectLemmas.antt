@@ -19,7 +19,7 @@ use Rattle.addr_layout.specs.Layout.{IsBare, IsFull, IsLaid, IsLayout}
 use Rattle.addr_layout.specs.Needs.{Needs}
 
 -- what a step to the same things leads to
-deps-same : (step other : ℕ → ℕ → Type 0) → ((b c : ℕ) → step b c → other b c) → ((b c : ℕ) → other b c → step b c) → (b : ℕ) (deps : List ℕ) → IsDeps step b deps → IsDeps other b deps
+pub deps-same : (step other : ℕ → ℕ → Type 0) → ((b c : ℕ) → step b c → other b c) → ((b c : ℕ) → other b c → step b c) → (b : ℕ) (deps : List ℕ) → IsDeps step b deps → IsDeps other b deps
 deps-same step other to from b deps (rest, is, list) = (
   rest,
   is,

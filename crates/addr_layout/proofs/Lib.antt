@@ -14,3 +14,4 @@ pub mod LinkLemmas
 pub mod FollowLemmas
 pub mod LedLemmas
 pub mod UniqueLemmas
+pub mod KeptLemmas

@@ -16,7 +16,7 @@ use Rattle.addr_walks.specs.Walks.{Leads}
 use Rattle.addr_walks.proofs.Lists.{one-list}
 use Rattle.addr_layout.specs.declared.model.LayBundle.{LayBundle}
 use Rattle.addr_layout.specs.declared.model.RefHome.TheVariants.{Own, Bundle}
-use Rattle.addr_layout.specs.Counts.{AreCounted, AreFor, IsDepsCount, IsMembersCount}
+use Rattle.addr_layout.specs.Counts.{AreCounted, AreFor, IsDepsCountOver, IsMembersCount}
 use Rattle.addr_layout.specs.Laws.{AtMostOne}
 use Rattle.addr_layout.specs.Layout.{AreHomes, AreMembers, IsBare, IsFull, IsLaid, IsLayout, MemberNumber, by_guid}
 use Rattle.addr_layout.specs.Members.{IsShared}
@@ -60,8 +60,9 @@ one-total : (plan : Plan) (fits : ℕ → List ℕ → Type 0) → ((b : ℕ) �
 one-total plan fits one m n (lists, for, is) (others, also, was) =
     is ∙ (ap (λ (ls : List (List ℕ)). sum (map length ls)) (one-at fits one lists others (for.as_many ∙ sym also.as_many) for.each also.each) ∙ sym was)
 
-pub one-deps_count : (p : Project) (plan : Plan) → AtMostOne (IsDepsCount p plan)
-one-deps_count p plan = one-total plan (IsDeps (Needs p plan)) (one-deps (Needs p plan))
+-- so has it one count of dependencies over each
+pub one-deps_count : (needs : ℕ → ℕ → Type 0) (plan : Plan) → AtMostOne (IsDepsCountOver needs plan)
+one-deps_count needs plan = one-total plan (IsDeps needs) (one-deps needs)
 
 -- ---- members
 

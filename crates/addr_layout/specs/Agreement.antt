@@ -23,13 +23,17 @@ place b g = record { bundle = b; guid = g }
 abbrev pub Follows : Project → Plan → Place → Place → Type 0
 Follows p plan from to = Refers p from.guid to.guid × Home p plan from.bundle to.guid to.bundle
 
--- from an entry in its bundle, following references comes to exactly the assets that the project reaches, each a member where
--- one stands, in bundles that are all among the first one's dependencies
-pub record Agrees (p : Project) (plan : Plan) (b : ℕ) (a : Guid) : Type 0 where
-  pub found : (d : Guid) → Reaches p a d → (c : ℕ) × Leads (Follows p plan) (place b a) (place c d)
-  pub only : (c : ℕ) (d : Guid) → Leads (Follows p plan) (place b a) (place c d) → Reaches p a d
-  pub held : (c : ℕ) (d : Guid) → Leads (Follows p plan) (place b a) (place c d) → Member p plan c d
-  pub needed : (c : ℕ) (d : Guid) (deps : List ℕ) → IsDeps (Needs p plan) b deps → Leads (Follows p plan) (place b a) (place c d) → Contains deps c
+-- from an asset in a bundle, following steps comes to exactly the assets that the project reaches, each standing where one comes,
+-- in bundles that are all among the first one's dependencies
+pub record AgreesOver (p : Project) (follows : Place → Place → Type 0) (stands : Place → Type 0) (needs : ℕ → ℕ → Type 0) (b : ℕ) (a : Guid) : Type 0 where
+  pub found : (d : Guid) → Reaches p a d → (c : ℕ) × Leads follows (place b a) (place c d)
+  pub only : (c : ℕ) (d : Guid) → Leads follows (place b a) (place c d) → Reaches p a d
+  pub held : (c : ℕ) (d : Guid) → Leads follows (place b a) (place c d) → stands (place c d)
+  pub needed : (c : ℕ) (d : Guid) (deps : List ℕ) → IsDeps needs b deps → Leads follows (place b a) (place c d) → Contains deps c
+
+-- by homes of the placement, members, and what these need
+abbrev pub Agrees : Project → Plan → ℕ → Guid → Type 0
+Agrees p plan b a = AgreesOver p (Follows p plan) (λ q. Member p plan q.bundle q.guid) (Needs p plan) b a
 
 -- it does so from each entry, where each stands in a bundle
 abbrev pub WalkAgrees : Project → Plan → Type 0

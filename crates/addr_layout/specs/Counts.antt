@@ -23,6 +23,10 @@ AreCounted p plan b members = (bundle : PlanBundle) × (slice_get plan.bundles b
 abbrev pub IsMembersCount : Project → Plan → ℕ → Type 0
 IsMembersCount p plan n = (lists : List (List ℕ)) × AreFor plan (AreCounted p plan) lists × (n ≡ sum (map length lists))
 
--- the dependencies of all bundles together, each bundle itself with them
+-- the dependencies of all bundles together over a step of needing, each bundle itself with them
+abbrev pub IsDepsCountOver : (ℕ → ℕ → Type 0) → Plan → ℕ → Type 0
+IsDepsCountOver needs plan n = (lists : List (List ℕ)) × AreFor plan (IsDeps needs) lists × (n ≡ sum (map length lists))
+
+-- the same where each bundle needs what its members refer to
 abbrev pub IsDepsCount : Project → Plan → ℕ → Type 0
-IsDepsCount p plan n = (lists : List (List ℕ)) × AreFor plan (IsDeps (Needs p plan)) lists × (n ≡ sum (map length lists))
+IsDepsCount p plan n = IsDepsCountOver (Needs p plan) plan n

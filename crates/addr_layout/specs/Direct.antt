@@ -17,6 +17,10 @@ direct_lists layout = map (λ lay. lay.direct) layout.bundles
 abbrev pub IsAllNew : Plan → Type 0
 IsAllNew plan = (b : ℕ) (bundle : PlanBundle) → slice_get plan.bundles b ≡ Some bundle → bundle.kept ≡ false
 
+-- the dependency lists over rows are those of a step of needing
+abbrev pub Closes : (ℕ → ℕ → Type 0) → List (List ℕ) → Type 0
+Closes needs rows = (b : ℕ) (deps : List ℕ) → IsDeps (Edge rows) b deps ↔ IsDeps needs b deps
+
 -- the dependency lists over the direct lists are those of the bundles' needs
 abbrev pub ClosesNeeds : Project → Plan → Layout → Type 0
-ClosesNeeds p plan layout = (b : ℕ) (deps : List ℕ) → IsDeps (Edge (direct_lists layout)) b deps ↔ IsDeps (Needs p plan) b deps
+ClosesNeeds p plan layout = Closes (Needs p plan) (direct_lists layout)

@@ -9,3 +9,4 @@ pub mod Owners
 pub mod Homes
 pub mod Links
 pub mod Laws
+pub mod KeptBundles

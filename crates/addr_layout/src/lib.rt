@@ -23,8 +23,8 @@ mod tests;
 pub use addr_walks::closed;
 pub use counting::{deps_count, members_count};
 pub use laws::{
-    counts_are_one, dependencies_begin_once, direct_closes, layout_is_one, placement_is_shared,
-    references_are_led, walk_agrees,
+    counts_are_one, dependencies_begin_once, direct_closes, kept_closes, kept_walk_agrees,
+    layout_is_one, placement_is_shared, references_are_led, walk_agrees,
 };
 pub use laying::layout;
 pub use model::{LayBundle, Layout, RefHome};

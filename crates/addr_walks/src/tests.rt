@@ -46,3 +46,19 @@ fn searches_one_after_another(rt: HostRuntime) -> Result<(), Fail> {
     assert!(rt; found.as_slice() == [2, 4].as_slice());
     Ok(())
 }
+
+/// Row b leads to b / 2 (rounded down), so the last of 1,100 rows leads to ten others and to 0.
+#[test]
+fn closes_more_than_a_thousand_rows(rt: HostRuntime) -> Result<(), Fail> {
+    let mut made = Vec::new(rt.alloc());
+    for b in 0..1100u32 {
+        made.push(Items::copy_of(rt.alloc(), &[b / 2])?)?;
+    }
+    let rows = made.as_slice();
+    assert_eq!(rt; rows.len(), 1100);
+    assert!(rt; are_below(rows));
+    let all = closed(rt.alloc(), rows)?;
+    let want = [1099, 0, 1, 2, 4, 8, 17, 34, 68, 137, 274, 549];
+    assert!(rt; all.as_slice()[1099].as_slice() == want.as_slice());
+    Ok(())
+}
