@@ -1,5 +1,5 @@
 -- The bundles of a placement: how many there are, and what their names are like.
-use Rattle.std.proofs.Common.{◌≡◌, ◌≢◌, ℕ, zero, suc, ◌<◌, ◌≤◌, ◌⊎◌, inl, inr, Bool, true, false, List, [], ◌∷◌, ◌++◌, codes, length, map, get_or, Some, nat_eq, refl, sym, ap, subst, ◌∙◌, arith, append_assoc}
+use Rattle.std.proofs.Common.{◌≡◌, ◌≢◌, ℕ, zero, suc, ◌<◌, ◌≤◌, ◌⊎◌, inl, inr, false, List, [], ◌∷◌, ◌++◌, codes, length, map, get_or, Some, nat_eq, refl, sym, ap, subst, ◌∙◌, arith, append_assoc}
 use Rattle.std.proofs.lemmas.Bool.{false≢true, false_from_ne_true, cases_lt}
 use Rattle.std.proofs.lemmas.Cmp.{nat_eq_equiv, nat_list_cmp_total}
 use Rattle.std.proofs.lemmas.List.{length_push}
@@ -21,9 +21,9 @@ use Rattle.addr_project.specs.Model.{Project}
 use Rattle.addr_base.specs.declared.ids.Guid.{Guid}
 use Rattle.addr_pack.specs.declared.bundles.Plan.{Plan}
 use Rattle.addr_pack.specs.declared.bundles.PlanBundle.{PlanBundle}
-use Rattle.addr_pack.specs.BundleNames.{beginning, BeginsWith, IsGroupName, internal_name, moved_name}
+use Rattle.addr_pack.specs.BundleNames.{beginning, BeginsWith, internal_name, moved_name}
 use Rattle.addr_pack.specs.Laws.{BeginningsTell, DigitsFollow, FewBundles, GroupNames, ShortNames}
-use Rattle.addr_pack.specs.Naming.{ending, name_of, spelled, IsNamed}
+use Rattle.addr_pack.specs.Naming.{ending, name_of, IsNamed}
 use Rattle.addr_pack.specs.Placement.{InBundle, IsPlaced}
 use Rattle.addr_walks.proofs.MarkLemmas.{any-Contains}
 use Rattle.addr_walks.proofs.Lists.{Contains-none}

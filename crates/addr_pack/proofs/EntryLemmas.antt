@@ -1,17 +1,8 @@
 -- The entries of a project: how many there are, what each is named, and whether its name is too long.
-use Rattle.std.proofs.Common.{◌≡◌, ℕ, ◌+◌, ◌<◌, ◌≤◌, ◌⊎◌, nat_lt, Bool, true, false, List, length, Option, Some, None, refl, sym, ap, subst, ◌∙◌, inl, inr, arith}
-use Rattle.std.proofs.lemmas.Bool.Decides.{nat_tests}
-use Rattle.std.proofs.lemmas.List.{length-map}
+use Rattle.std.proofs.Common.{◌≡◌, ℕ, ◌+◌, ◌<◌, ◌≤◌, ◌⊎◌, List, length, Some, refl, sym, ap, subst, ◌∙◌, inl, inr, arith}
 use Rattle.std.proofs.lemmas.Option.{slice_get_within}
 use Rattle.std.specs.List.{slice_get}
-use Rattle.std.specs.Option.{option_or}
-use Rattle.addr_base.specs.declared.ids.Guid.{Guid}
-use Rattle.addr_base.specs.declared.var.Var.{Var}
-use Rattle.addr_project.specs.declared.error.ProjectErr.TheVariants.{OverLimit}
-use Rattle.addr_project.specs.declared.limit.Limit.TheVariants as limit
 use Rattle.addr_project.specs.declared.model.Entry.{Entry}
-use Rattle.addr_project.specs.declared.model.Group.{Group}
-use Rattle.addr_project.specs.Faults.{count_fault, over}
 use Rattle.addr_project.specs.Kept.{IsKept}
 use Rattle.addr_project.specs.Model.{Project}
 use Rattle.addr_pack.specs.LongNames.{HasLongName}

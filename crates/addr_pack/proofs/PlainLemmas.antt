@@ -1,11 +1,10 @@
 -- Names are of letters, digits, `-`, `~` and `_`, where what they are made of is bytes.
-use Rattle.std.proofs.Common.{◌≡◌, ℕ, zero, suc, ◌+◌, ◌<◌, ◌/◌, ◌%◌, ◌||◌, ◌&&◌, ◌==◌, Bool, true, false, List, [], ◌∷◌, ◌++◌, codes, length, get_or, take, Some, refl, sym, ap, subst, ◌∙◌, arith}
+use Rattle.std.proofs.Common.{◌≡◌, ℕ, zero, suc, ◌+◌, ◌<◌, ◌/◌, ◌%◌, ◌||◌, ◌&&◌, ◌==◌, Bool, true, false, List, [], ◌∷◌, ◌++◌, codes, length, get_or, take, refl, sym, ap, subst, ◌∙◌, arith}
 use Rattle.std.proofs.lemmas.Bool.Decides.{nat_tests}
 use Rattle.std.proofs.lemmas.Bool.{and_parts}
-use Rattle.std.proofs.lemmas.List.{take_all, take_more}
+use Rattle.std.proofs.lemmas.List.{take_more}
 use Rattle.std.proofs.lemmas.Str.{IsUtf8-from_ascii}
 use Rattle.std.proofs.lemmas.Str.Ascii.{IsAscii-nil, IsAscii-cons}
-use Rattle.std.specs.List.{AllByRecursion, slice_get}
 use Rattle.std.specs.Prelude.{slice_index}
 use Rattle.std.specs.Str.{IsAscii}
 use Rattle.hex.specs.Hex.{IsBytes, encode_with, lower_digits}
@@ -15,7 +14,6 @@ use Rattle.addr_base.specs.declared.ids.Guid.{Guid}
 use Rattle.addr_project.specs.Kept.{IsKept}
 use Rattle.addr_project.specs.Model.{Project}
 use Rattle.addr_project.specs.declared.model.Asset.{Asset}
-use Rattle.addr_project.specs.declared.model.Entry.{Entry}
 use Rattle.addr_project.specs.declared.model.Group.{Group}
 use Rattle.addr_project.specs.declared.model.Mode.{Mode}
 use Rattle.addr_project.specs.declared.model.Mode.TheVariants.{Together, Separate, Label}

@@ -1,12 +1,10 @@
 -- What the names of bundles are like, whatever the project is.
-use Rattle.std.specs.Prelude.{ℕ, ◌≡◌, ◌≢◌, ◌≤◌, ◌||◌, ◌==◌, codes, Bool, true, List, [], ◌∷◌, ◌++◌, length, Some}
+use Rattle.std.specs.Prelude.{ℕ, ◌≡◌, ◌≢◌, ◌||◌, ◌==◌, codes, Bool, true, List, [], ◌∷◌, ◌++◌, Some}
 use Rattle.std.specs.List.{AllByRecursion, slice_get}
 use Rattle.std.specs.Str.{IsUtf8}
 use Rattle.addr_base.specs.Escapes.{escaped, is_name_byte}
 use Rattle.addr_base.specs.Ids.{digest_of, hex_of}
-use Rattle.addr_project.specs.declared.limit.Limit.TheVariants as limit
 use Rattle.addr_project.specs.declared.model.Group.{Group}
-use Rattle.addr_project.specs.Limits.{most}
 use Rattle.addr_project.specs.Model.{Project}
 use Rattle.addr_pack.specs.declared.bundles.Plan.{Plan}
 use Rattle.addr_pack.specs.declared.bundles.PlanBundle.{PlanBundle}

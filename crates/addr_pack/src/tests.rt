@@ -2,7 +2,9 @@
 use crate::{Plan, PlanErr, plan};
 use addr_base::{Depot, MemDepot};
 use addr_project::Project;
+use std::fmt::Write;
 use std::process::Abort;
+use std::test::Fail;
 
 /// One group of each mode, and entries in each, as their assets come.
 const THREE_MODES: &str = "\
@@ -120,6 +122,27 @@ fn bundles_come_in_order_of_names(rt: HostRuntime) {
         &[("X_assets_all", 1, &[1]), ("Y_assets_all", 0, &[0])],
     );
     plans(&rt, "", &[]);
+}
+
+// A want of memory that only a large project meets would pass every clause.
+#[test]
+fn many_entries_are_planned(rt: HostRuntime) -> Result<(), Fail> {
+    let mut text = String::from_str(rt.alloc(), "[[group]]\nname = 'G'\nmode = 'separate'\n")?;
+    for n in 1_000..2_100 {
+        write!(
+            text,
+            "[[asset]]\nguid = '0000000000000000000000000000{n}'\ntype = 'T'\nfile = 'a'\n"
+        )?;
+        write!(
+            text,
+            "[[entry]]\nguid = '0000000000000000000000000000{n}'\ngroup = 'G'\naddress = 'x'\n"
+        )?;
+    }
+    match plan_of(&rt, text.as_str()) {
+        Ok(plan) => assert_eq!(rt; plan.bundles.len(), 1_100),
+        Err(refusal) => assert!(rt; false, "{refusal:?}"),
+    }
+    Ok(())
 }
 
 #[test]

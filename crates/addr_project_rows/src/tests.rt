@@ -1,5 +1,8 @@
 // What no clause says: worked members and rows, and that each call can succeed.
-use crate::{fields, first_repeat, labels_at, list_at, variables_read};
+use crate::{
+    Indexed, fields, first_repeat, index_rows, labels_at, list_at, row_number, texts,
+    variables_read,
+};
 use addr_base::Text;
 use std::test::Fail;
 
@@ -46,6 +49,10 @@ fn rows_up_to_the_first_bad_one(rt: HostRuntime) -> Result<(), Fail> {
     };
     let read = variables_read(rt.alloc(), rows)?;
     assert_eq!(rt; (read.found.len(), read.bad), (2, Some(1)));
-    assert_eq!(rt; first_repeat(rt.alloc(), read.found.as_slice())?, Some(1));
+    let variables = read.found.as_slice();
+    assert_eq!(rt; first_repeat(rt.alloc(), variables)?, Some(1));
+    assert!(rt; matches!(index_rows(rt.alloc(), variables)?, Indexed::Repeat(1)));
+    assert_eq!(rt; row_number(variables.len())?, 2);
+    assert!(rt; texts::is_file_name(rt.alloc(), "a/state_1")?);
     Ok(())
 }
