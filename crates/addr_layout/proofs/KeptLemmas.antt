@@ -1,5 +1,5 @@
 -- Beside kept bundles: walks through new and kept bundles agree with the project, and rows of both close the needs of both.
-use Rattle.std.proofs.Common.{◌≡◌, ◌≢◌, ℕ, ◌<◌, ◌⊎◌, inl, inr, Bool, true, false, List, [], length, get_or, Some, refl, sym, ap, subst, ◌∙◌, arith}
+use Rattle.std.proofs.Common.{◌≡◌, ◌≢◌, ℕ, ◌⊎◌, inl, inr, Bool, true, false, List, [], get_or, Some, refl, sym, ap, subst, ◌∙◌, arith}
 use Rattle.std.proofs.lemmas.Bool.{false≢true}
 use Rattle.std.proofs.lemmas.Option.{slice_get_within, slice_get-get_or}
 use Rattle.std.specs.Bool.{MatchBool}
@@ -10,7 +10,7 @@ use Rattle.addr_pack.specs.declared.bundles.PlanBundle.{PlanBundle}
 use Rattle.addr_project.specs.Model.{Project}
 use Rattle.addr_project.specs.Reach.{Refers}
 use Rattle.addr_walks.specs.Rows.{Edge}
-use Rattle.addr_walks.specs.Walks.Leads.{stays, goes}
+use Rattle.addr_walks.specs.Walks.Leads.{stays}
 use Rattle.addr_layout.specs.declared.model.LayBundle.{LayBundle}
 use Rattle.addr_layout.specs.declared.model.Layout.{Layout}
 use Rattle.addr_layout.specs.Agreement.{Place, place}
@@ -18,7 +18,6 @@ use Rattle.addr_layout.specs.Direct.{Closes}
 use Rattle.addr_layout.specs.KeptBundles.{AreKeptHomes, FollowsWith, HaveDirect, IsKeptAt, IsNewAt, NeedsWith, StandsWith, WalkAgreesWith}
 use Rattle.addr_layout.specs.Layout.{IsBare, IsFull, IsLayout}
 use Rattle.addr_layout.specs.Members.{EachPlaced, HasEntry}
-use Rattle.addr_layout.specs.Needs.{Needs}
 use Rattle.addr_layout.proofs.AgreementLemmas.{LeadsOn, agrees-over, holds-on, needs-on, some-home}
 use Rattle.addr_layout.proofs.DirectLemmas.{deps-same}
 use Rattle.addr_layout.proofs.RankLemmas.{same-some}

@@ -1,6 +1,6 @@
--- Bundles that are kept from an earlier release: what they need, and where their references lead, is said by their files and not by
--- today's project. Each definition takes what is said of them as an argument.
-use Rattle.std.specs.Prelude.{ℕ, ◌≡◌, ◌≢◌, ◌⊎◌, length, List, true, false, Some}
+-- Bundles that are kept from an earlier release: what they need, and where their references lead, is said by their files
+-- and not by today's project. Each definition takes what is said of them as an argument.
+use Rattle.std.specs.Prelude.{ℕ, ◌≡◌, ◌≢◌, ◌⊎◌, length, List, Bool, true, false, Some}
 use Rattle.std.specs.List.{slice_get}
 use Rattle.addr_base.specs.declared.ids.Guid.{Guid}
 use Rattle.addr_pack.specs.declared.bundles.Plan.{Plan}
@@ -41,7 +41,8 @@ FollowsWith homes p plan from to = Refers p from.guid to.guid
 
 -- what is said of kept bundles fits the project: their entries are held; each reference of what is held leads somewhere, only to
 -- what stands there, and only to its own bundle or to one that is needed
-pub record AreKeptHomes (p : Project) (plan : Plan) (holds : ℕ → Guid → Type 0) (homes : ℕ → Guid → Guid → ℕ → Type 0) (names : ℕ → ℕ → Type 0) : Type 0 where
+pub record AreKeptHomes (p : Project) (plan : Plan) (holds : ℕ → Guid → Type 0)
+    (homes : ℕ → Guid → Guid → ℕ → Type 0) (names : ℕ → ℕ → Type 0) : Type 0 where
   pub entries : (b : ℕ) (a : Guid) → IsKeptAt plan b → HasEntry p plan b a → holds b a
   pub some : (b : ℕ) (x y : Guid) → IsKeptAt plan b → holds b x → Refers p x y → (c : ℕ) × homes b x y c
   pub stand : (b c : ℕ) (x y : Guid) → IsKeptAt plan b → holds b x → Refers p x y → homes b x y c → StandsWith holds p plan (record { bundle = c; guid = y })
@@ -51,3 +52,8 @@ pub record AreKeptHomes (p : Project) (plan : Plan) (holds : ℕ → Guid → Ty
 abbrev pub WalkAgreesWith : (ℕ → Guid → Type 0) → (ℕ → Guid → Guid → ℕ → Type 0) → (ℕ → ℕ → Type 0) → Project → Plan → Type 0
 WalkAgreesWith holds homes names p plan = AreKeptHomes p plan holds homes names → EachPlaced p plan
     → (b : ℕ) (a : Guid) → HasEntry p plan b a → AgreesOver p (FollowsWith homes p plan) (StandsWith holds p plan) (NeedsWith names p plan) b a
+
+-- whatever is said of kept bundles by tests: a law that quantifies over these
+abbrev pub KeptWalksAgree : Project → Plan → Type 0
+KeptWalksAgree p plan = (holds : ℕ → Guid → Bool) (homes : ℕ → Guid → Guid → ℕ → Bool) (names : ℕ → ℕ → Bool)
+    → WalkAgreesWith (λ b g. holds b g ≡ true) (λ b x y c. homes b x y c ≡ true) (λ b c. names b c ≡ true) p plan

@@ -1,4 +1,5 @@
--- Laws of layouts: where the references of a bundle's members lead, and that a placement has at most one layout and one count of each kind.
+-- Laws of layouts: where the references of a bundle's members lead, and that a placement has at most one layout and one
+-- count of each kind.
 use Rattle.std.specs.Prelude.{ℕ, ◌≡◌, List, Some}
 use Rattle.std.specs.List.{AllZip, Contains, slice_get}
 use Rattle.addr_base.specs.declared.ids.Guid.{Guid}

@@ -1,13 +1,12 @@
 // Laws of layouts, for the crates that build: each call's contract is a law, and nothing runs.
-ghost use Rattle.std.specs.Prelude.{◌≡◌, ◌<◌, ◌^◌, ℕ, List, length, Bool, true};
-ghost use Rattle.addr_base.specs.declared.ids.Guid.{Guid};
+ghost use Rattle.std.specs.Prelude.{◌≡◌, ◌<◌, ◌^◌, ℕ, List, length};
 ghost use Rattle.addr_pack.specs.Placement.{IsPlaced};
 ghost use Rattle.addr_walks.specs.Closure.{IsDeps, BeginsOnce};
 ghost use Rattle.addr_layout.specs.Agreement.{WalkAgrees};
 ghost use Rattle.addr_walks.specs.Rows.{AreBelow, Edge};
 ghost use Rattle.addr_layout.specs.Counts.{IsDepsCount, IsMembersCount};
 ghost use Rattle.addr_layout.specs.Direct.{direct_lists, Closes, ClosesNeeds, IsAllNew};
-ghost use Rattle.addr_layout.specs.KeptBundles.{HaveDirect, NeedsWith, WalkAgreesWith};
+ghost use Rattle.addr_layout.specs.KeptBundles.{HaveDirect, KeptWalksAgree, NeedsWith};
 ghost use Rattle.addr_layout.specs.Laws.{AtMostOne, LeadsWell};
 ghost use Rattle.addr_layout.specs.Layout.{IsLayout};
 ghost use Rattle.addr_layout.specs.Members.{IsShared};
@@ -70,15 +69,14 @@ pub fn counts_are_one(project: &Project, plan: &Plan)
     ensures deps { AtMostOne (IsDepsCount project.now plan.now) }
 {}
 
-/// Where some bundles are kept: what is said of these (what they hold, where their references lead, which bundles they need) may be
-/// anything that fits the project; then walks agree as `walk_agrees` says of bundles that are all new.
+/// Where some bundles are kept, whatever is said of what they hold, where their references lead and which bundles they
+/// need, if it fits the project: walks agree as `walk_agrees` says where none is kept.
 pub fn kept_walk_agrees(project: &Project, plan: &Plan)
-    ensures { (holds : ℕ → Guid → Bool) (homes : ℕ → Guid → Guid → ℕ → Bool) (names : ℕ → ℕ → Bool)
-        → WalkAgreesWith (λ b g. holds b g ≡ true) (λ b x y c. homes b x y c ≡ true) (λ b c. names b c ≡ true) project.now plan.now }
+    ensures { KeptWalksAgree project.now plan.now }
 {}
 
-/// Rows that have the direct list of each new bundle, and for a kept one what its file names, may be closed: that gives each bundle's
-/// dependency list over these needs.
+/// Rows that have the direct list of each new bundle, and for a kept one what its file names: closing them gives each
+/// bundle's dependency list over these needs.
 pub fn kept_closes(project: &Project, plan: &Plan, layout: &Layout, rows: &[Items<u32>])
     requires laid { IsLayout project.now plan.now layout.now }
     requires rows { HaveDirect plan.now layout.now rows.now }
