@@ -39,7 +39,8 @@ fn member_count(graph: &Graph, search: &mut Search, b: usize, kept: bool) -> Res
     requires within { b < length graph.now.seeds }
     requires size { search.old ≡ length graph.now.guids }
     ensures size { search.new ≡ search.old }
-    ensures count { IfOk result (λ n. MatchBool kept (n ≡ 0) (IsSizeOf (LedTo graph.now.within (seeds_at graph.now b)) n)) }
+    ensures count { IfOk result
+        (λ n. MatchBool kept (n ≡ 0) (IsSizeOf (LedTo graph.now.within (seeds_at graph.now b)) n)) }
 {
     if kept {
         return Ok(0);

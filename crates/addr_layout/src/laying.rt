@@ -131,7 +131,8 @@ fn homes_at(
     ranks: &[u32],
 ) -> Result<Items<Items<RefHome>>, NoMemory>
     requires { All (λ r. r < length graph.now.refs) ranks.now }
-    ensures { IfOk result (λ rows. rows ≡ map (λ r. map (home_at b graph.now.bundles) (refs_at graph.now r)) ranks.now) }
+    ensures { IfOk result
+        (λ rows. rows ≡ map (λ r. map (home_at b graph.now.bundles) (refs_at graph.now r)) ranks.now) }
 {
     let mut rows = Items::new(alloc);
     for r in ranks.iter() {

@@ -25,7 +25,8 @@ use toml::Table;
 /// What a tree stands for without asset files, or its first fault.
 #[tactic(auto, unfolding(crate::specs::Faults::tree_fault))]
 pub fn parts_of(alloc: Global, tree: &Table) -> Result<Parts, ProjectErr>
-    ensures ok { IfOk result (λ parts. (tree_fault (table_view tree.now) ≡ None) × IsParts (file_of (table_view tree.now)) parts) }
+    ensures ok { IfOk result
+        (λ parts. (tree_fault (table_view tree.now) ≡ None) × IsParts (file_of (table_view tree.now)) parts) }
     ensures err { IfErr result (λ e. (e ≡ faults.NoMemory) ⊎ (tree_fault (table_view tree.now) ≡ Some e)) }
 {
     let file = file_read(alloc, tree)?;
@@ -115,7 +116,8 @@ fn whole(reply: Extent) -> Text
 
 /// Entries with their assets and groups as numbers.
 fn numbered(alloc: Global, named: &Named, rows: &[EntryRow]) -> Result<Items<Entry>, NoMemory>
-    ensures { IfOk result (λ entries. entries ≡ map (entry_from (keys_in named.now.guids.keys.items) (keys_in named.now.names.keys.items)) rows.now) }
+    ensures { IfOk result (λ entries. entries ≡ map
+        (entry_from (keys_in named.now.guids.keys.items) (keys_in named.now.names.keys.items)) rows.now) }
 {
     let mut entries = Items::new(alloc);
     for row in rows.iter() {
@@ -126,7 +128,9 @@ fn numbered(alloc: Global, named: &Named, rows: &[EntryRow]) -> Result<Items<Ent
 }
 
 fn number_entry(alloc: Global, named: &Named, row: &EntryRow) -> Result<Entry, NoMemory>
-    ensures { IfOk result (λ entry. entry ≡ entry_from (keys_in named.now.guids.keys.items) (keys_in named.now.names.keys.items) row.now) }
+    ensures { IfOk result
+        (λ entry. entry ≡ entry_from (keys_in named.now.guids.keys.items)
+        (keys_in named.now.names.keys.items) row.now) }
 {
     let asset = named.guids.place(row.guid.0.as_slice()).unwrap_or(0);
     let group = named.names.place(row.group.as_bytes()).unwrap_or(0);

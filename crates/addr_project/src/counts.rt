@@ -13,7 +13,8 @@ use addr_base::Var;
 /// The first count that passes its limit.
 #[tactic(auto, unfolding(crate::specs::Faults::count_fault))]
 pub fn count_fault(file: &ProjectFile) -> Option<ProjectErr>
-    ensures { result ≡ count_fault file.now.variables file.now.groups (map (λ a. a.refs) file.now.assets) (map (λ e. e.labels) file.now.entries) }
+    ensures { result ≡ count_fault file.now.variables file.now.groups (map (λ a. a.refs) file.now.assets)
+        (map (λ e. e.labels) file.now.entries) }
 {
     over(Limit::Variables, file.variables.len() as u64)
         .or(over(Limit::Groups, file.groups.len() as u64))

@@ -75,7 +75,8 @@ fn check_keys<'a>(
 
 #[tactic(auto, unfolding(crate::specs::Faults::link_fault))]
 fn check_links(named: &Named, assets: &[AssetRow], entries: &[EntryRow]) -> Result<(), ProjectErr>
-    ensures ok { OnOk result (link_fault (keys_in named.now.names.keys.items) (keys_in named.now.guids.keys.items) assets.now entries.now ≡ None) }
+    ensures ok { OnOk result (link_fault (keys_in named.now.names.keys.items)
+        (keys_in named.now.guids.keys.items) assets.now entries.now ≡ None) }
     ensures err { IfErr result (λ e. (e ≡ faults.NoMemory)
         ⊎ (link_fault (keys_in named.now.names.keys.items) (keys_in named.now.guids.keys.items) assets.now entries.now ≡ Some e)) }
 {

@@ -129,7 +129,8 @@ fn table_read<T: Row + Drop>(
     rows: &[Value],
     table: Part,
 ) -> Result<Items<T>, ProjectErr>
-    ensures ok { IfOk result (λ found. (bad_row table T.row_of (map view rows.now) ≡ None) × (found ≡ filter_map T.row_of (map view rows.now))) }
+    ensures ok { IfOk result (λ found. (bad_row table T.row_of (map view rows.now) ≡ None)
+        × (found ≡ filter_map T.row_of (map view rows.now))) }
     ensures err { IfErr result (λ e. (e ≡ faults.NoMemory) ⊎ (bad_row table T.row_of (map view rows.now) ≡ Some e)) }
 {
     let read = rows_read::<T>(alloc, rows)?;
@@ -140,7 +141,9 @@ fn table_read<T: Row + Drop>(
 }
 
 fn variable_table(alloc: Global, rows: &[Value]) -> Result<Items<Var>, ProjectErr>
-    ensures ok { IfOk result (λ found. (bad_variable (map view rows.now) ≡ None) × (found ≡ filter_map variable_of (map view rows.now))) }
+    ensures ok { IfOk result
+        (λ found. (bad_variable (map view rows.now) ≡ None)
+        × (found ≡ filter_map variable_of (map view rows.now))) }
     ensures err { IfErr result (λ e. (e ≡ faults.NoMemory) ⊎ (bad_variable (map view rows.now) ≡ Some e)) }
 {
     let read = variables_read(alloc, rows)?;
@@ -156,7 +159,8 @@ fn variable_table(alloc: Global, rows: &[Value]) -> Result<Items<Var>, ProjectEr
 /// What a project file says, or its first bad field.
 #[tactic(auto, unfolding(crate::specs::Faults::row_fault, crate::specs::Rows::file_of))]
 pub fn file_read(alloc: Global, tree: &Table) -> Result<ProjectFile, ProjectErr>
-    ensures ok { IfOk result (λ file. (field_fault (table_view tree.now) ≡ None) × (file ≡ file_of (table_view tree.now))) }
+    ensures ok { IfOk result
+        (λ file. (field_fault (table_view tree.now) ≡ None) × (file ≡ file_of (table_view tree.now))) }
     ensures err { IfErr result (λ e. (e ≡ faults.NoMemory) ⊎ (field_fault (table_view tree.now) ≡ Some e)) }
 {
     let head = head_of(tree)?;

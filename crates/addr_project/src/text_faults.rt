@@ -13,7 +13,8 @@ use addr_project_rows::row_number;
 /// The first text that can't be expanded.
 #[tactic(auto, unfolding(crate::specs::Faults::text_fault))]
 pub fn text_fault(replies: &Replies) -> Result<Option<ProjectErr>, NoMemory>
-    ensures ok { IfOk result (λ fault. fault ≡ text_fault (answer_of replies.now.local) (answer_of replies.now.remote) (map answer_of replies.now.values.items)) }
+    ensures ok { IfOk result (λ fault. fault ≡ text_fault (answer_of replies.now.local)
+        (answer_of replies.now.remote) (map answer_of replies.now.values.items)) }
     ensures err { IfErr result (λ e. 2 ^ 32 < length replies.now.values.items) }
 {
     if is_bad(&replies.local) || is_bad(&replies.remote) {

@@ -65,7 +65,8 @@ pub fn name_at<'a>(table: &'a Table, key: &str) -> Option<&'a str>
 
 /// A file's name below the folder.
 pub fn file_at<'a>(alloc: Global, table: &'a Table, key: &str) -> Result<Option<&'a str>, NoMemory>
-    ensures { IfOk result (λ file. option_copied file ≡ field (text_where is_file_name) None key.now (table_view table.now)) }
+    ensures { IfOk result
+        (λ file. option_copied file ≡ field (text_where is_file_name) None key.now (table_view table.now)) }
 {
     let Some(value) = member(table, key) else {
         return Ok(None);
