@@ -17,7 +17,7 @@ use Rattle.addr_locate.specs.declared.rows.PlainAsset.{PlainAsset}
 use Rattle.addr_locate.specs.Rows.{Rows, AreRows, texts_once, text_at, place_of, numbered, written, rows_of, keys_of, kinds_of, has_sound_deps, no_text_twice}
 use Rattle.addr_locate.proofs.TextLemmas.{same_texts, text_is_itself, any-texts_once, length-texts_once-le, place-within}
 
-or_true : (b : Bool) → (b || true) ≡ true
+pub or_true : (b : Bool) → (b || true) ≡ true
 or_true true = refl
 or_true false = refl
 
@@ -25,7 +25,7 @@ or_true false = refl
 pub bytes_eq-sym : (t u : List ℕ) → bytes_eq t u ≡ bytes_eq u t
 bytes_eq-sym t u = same_from_decides (bytes_eq t u) (bytes_eq u t) (bytes_eq-Decides t u) ((λ e. sym ((bytes_eq-Decides u t).0 e)), (λ e. (bytes_eq-Decides u t).1 (sym e)))
 
-texts_once-snoc : (ts : List (List ℕ)) (t : List ℕ) → texts_once (ts ++ t ∷ []) ≡ texts_once ts ++ cond (list_any (λ u. bytes_eq u t) ts) [] (t ∷ [])
+pub texts_once-snoc : (ts : List (List ℕ)) (t : List ℕ) → texts_once (ts ++ t ∷ []) ≡ texts_once ts ++ cond (list_any (λ u. bytes_eq u t) ts) [] (t ∷ [])
 texts_once-snoc [] t = refl
 texts_once-snoc (x ∷ xs) t = rw (texts_once-snoc xs t, filter-append) (by_tests (list_any (λ u. bytes_eq u t) xs) (bytes_eq x t) refl refl)
   where

@@ -13,7 +13,6 @@ mod locator;
 mod merging;
 mod names;
 mod numbering;
-mod places;
 mod plain_fields;
 mod plain_lists;
 mod plain_reader;

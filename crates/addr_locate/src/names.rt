@@ -1,9 +1,10 @@
 // Texts under their numbers, and the number of each text by a hash. A look-up takes no memory. The hash has a fixed seed, since a
 // seed that nobody knows has to be given from outside; it only says where a text is looked for, and texts are compared whole.
-ghost use Rattle.std.specs.Prelude.{◌≡◌, ◌<◌, ◌^◌, length, position, IfOk};
+ghost use Rattle.std.specs.Prelude.{◌≡◌, ◌++◌, ◌∷◌, [], None, length, position, IfOk, OnOk};
 ghost use Rattle.std.specs.Str.{bytes_eq};
 ghost use Rattle.indexmap.specs.IndexMap.{get_by_text};
-ghost use Rattle.addr_locate.specs.Names.{FindsPlaces};
+ghost use Rattle.addr_locate.specs.Names.{with_text};
+ghost use Rattle.addr_locate.specs.Rows.{place_of};
 
 use addr_base::{Items, NoMemory, Text};
 use indexmap::IndexMap;
@@ -30,13 +31,13 @@ impl Model for Names {
 }
 
 impl Names {
-    /// Names with these texts. It takes memory for a copy of each.
-    pub(crate) fn of(alloc: Global, texts: Items<Text>) -> Result<Names, NoMemory>
-        requires { length texts < 2 ^ 32 }
-        ensures { IfOk result (λ names. names ≡ texts) }
+    pub(crate) fn new(alloc: Global) -> Names
+        ensures { result ≡ [] }
     {
-        let places = places_of(alloc, texts.as_slice())?;
-        Ok(Names { texts, places })
+        Names {
+            texts: Items::new(alloc),
+            places: IndexMap::new(alloc),
+        }
     }
 
     pub(crate) fn texts(&self) -> &[Text]
@@ -45,27 +46,41 @@ impl Names {
         self.texts.as_slice()
     }
 
-    /// The first place of the text, if it is there.
+    /// The place of the text, if it is there.
     pub(crate) fn place(&self, text: &str) -> Option<u32>
         ensures { result ≡ position (λ t. bytes_eq t text.now) self.now }
     {
         place_in(&self.places, text)
     }
-}
 
-fn places_of(alloc: Global, texts: &[Text]) -> Result<IndexMap<String, u32>, NoMemory>
-    requires { length texts.now < 2 ^ 32 }
-    ensures { IfOk result (λ places. FindsPlaces texts.now (get_by_text places)) }
-{
-    let mut places: IndexMap<String, u32> = IndexMap::new(alloc);
-    for (i, text) in texts.iter().enumerate() {
-        let text = text.as_str();
-        if places.get(text).is_none() {
-            let copy = String::from_str(alloc, text)?;
-            places.insert(copy, i as u32)?;
+    /// The place of the text, which gets the next one where it isn't there. Takes memory for a copy of a new text alone. More texts
+    /// than numbers are want of memory, too.
+    pub(crate) fn number(&mut self, alloc: Global, text: Text) -> Result<u32, NoMemory>
+        ensures texts { OnOk result (self.new ≡ with_text self.old text) }
+        ensures place { IfOk result (λ n. n ≡ place_of self.new text) }
+    {
+        if let Some(place) = self.place(text.as_str()) {
+            return Ok(place);
         }
+        let Ok(place) = u32::try_from(self.texts.len()) else {
+            return Err(NoMemory);
+        };
+        self.add(alloc, text, place)?;
+        Ok(place)
     }
-    Ok(places)
+
+    /// Puts a new text behind the others. Room in the map is made first, so that nothing is refused between the two.
+    fn add(&mut self, alloc: Global, text: Text, place: u32) -> Result<(), NoMemory>
+        requires last { place ≡ length self.old }
+        requires new { position (λ t. bytes_eq t text) self.old ≡ None }
+        ensures { OnOk result (self.new ≡ self.old ++ text ∷ []) }
+    {
+        let copy = String::from_str(alloc, text.as_str())?;
+        self.places.reserve(1)?;
+        self.texts.push(text)?;
+        self.places.insert(copy, place)?;
+        Ok(())
+    }
 }
 
 fn place_in(places: &IndexMap<String, u32>, text: &str) -> Option<u32>

@@ -1,18 +1,16 @@
-// Rows with their texts numbered. First the texts are listed, each once, then each row's are looked up: two walks, so
-// that a number never depends on how far the first one came. Both go by ordered maps of texts.
-ghost use Rattle.std.specs.Prelude.{◌≡◌, ◌<◌, ◌^◌, List, ℕ, map, length, IfOk, IsTrue};
+// Rows with their texts numbered in one walk: a text that is new gets the next number, and a number that was given stays.
+// The texts are moved out of the rows, and only a new one is copied once, for the look-up.
+ghost use Rattle.std.specs.Prelude.{◌≡◌, ◌<◌, ◌^◌, [], List, ℕ, map, length, IfOk, OnOk, IsTrue};
+ghost use Rattle.addr_locate.specs.Names.{with_text, with_texts};
 ghost use Rattle.std.specs.List.{list_all};
 ghost use Rattle.addr_locate.specs.Rows.{place_of, numbered, keys_of, kinds_of, rows_of, has_sound_deps, no_text_twice};
 
 use crate::locator::Locator;
 use crate::names::Names;
-use crate::places::Places;
 use crate::postings::postings_of;
 use crate::rows::{AssetRow, BundleRow, PlainAsset};
-use crate::texts::{add_text, add_texts};
 use addr_base::{Items, KeyNo, NoMemory, Text, TypeNo};
 use std::alloc::Global;
-use std::collections::BTreeMap;
 
 /// The locator of these rows. Each asset has dependencies, each a bundle's number, none twice, and no key twice.
 pub fn of_rows(
@@ -27,12 +25,10 @@ pub fn of_rows(
     requires keys { IsTrue (list_all (λ a. no_text_twice a.keys) assets.items) }
     ensures { IfOk result (λ locator. locator ≡ rows_of bundles.items assets.items) }
 {
-    let keys = keys_of(alloc, assets.as_slice())?;
-    let kinds = kinds_of(alloc, assets.as_slice())?;
-    let assets = number_rows(alloc, keys.as_slice(), kinds.as_slice(), assets)?;
-    let postings = postings_of(alloc, assets.as_slice(), keys.len())?;
-    let keys = Names::of(alloc, keys)?;
-    let kinds = Names::of(alloc, kinds)?;
+    let mut keys = Names::new(alloc);
+    let mut kinds = Names::new(alloc);
+    let assets = number_rows(alloc, &mut keys, &mut kinds, assets)?;
+    let postings = postings_of(alloc, assets.as_slice(), keys.texts().len())?;
     let bundles = Items::from_vec(bundles);
     Ok(Locator {
         bundles,
@@ -43,58 +39,43 @@ pub fn of_rows(
     })
 }
 
-fn keys_of(alloc: Global, assets: &[PlainAsset]) -> Result<Items<Text>, NoMemory>
-    ensures { IfOk result (λ keys. keys ≡ keys_of assets.now) }
-{
-    let mut seen = BTreeMap::new(alloc);
-    let mut keys = Items::new(alloc);
-    for asset in assets {
-        add_texts(alloc, &mut seen, &mut keys, asset.keys.as_slice())?;
-    }
-    Ok(keys)
-}
-
-fn kinds_of(alloc: Global, assets: &[PlainAsset]) -> Result<Items<Text>, NoMemory>
-    ensures { IfOk result (λ kinds. kinds ≡ kinds_of assets.now) }
-{
-    let mut seen = BTreeMap::new(alloc);
-    let mut kinds = Items::new(alloc);
-    for asset in assets {
-        add_text(alloc, &mut seen, &mut kinds, asset.kind.as_str())?;
-    }
-    Ok(kinds)
-}
-
 fn number_rows(
     alloc: Global,
-    keys: &[Text],
-    kinds: &[Text],
+    keys: &mut Names,
+    kinds: &mut Names,
     assets: Vec<PlainAsset>,
 ) -> Result<Items<AssetRow>, NoMemory>
-    requires few_keys { length keys.now < 2 ^ 32 }
-    requires few_kinds { length kinds.now < 2 ^ 32 }
-    ensures { IfOk result (λ rows. rows ≡ map (numbered keys.now kinds.now) assets.items) }
+    requires no_keys { keys.old ≡ [] }
+    requires no_kinds { kinds.old ≡ [] }
+    ensures keys { OnOk result (keys.new ≡ keys_of assets.items) }
+    ensures kinds { OnOk result (kinds.new ≡ kinds_of assets.items) }
+    ensures rows { IfOk result (λ rows. rows ≡ map (numbered keys.new kinds.new) assets.items) }
 {
-    let key_places = Places::of(alloc, keys)?;
-    let kind_places = Places::of(alloc, kinds)?;
-    let mut rows = Items::new(alloc);
+    let mut rows = Vec::with_capacity(alloc, assets.len())?;
     for asset in assets {
-        rows.push(numbered(alloc, &key_places, &kind_places, asset)?)?;
+        rows.push(numbered(alloc, keys, kinds, asset)?)?;
     }
-    Ok(rows)
+    Ok(Items::from_vec(rows))
 }
 
 fn numbered(
     alloc: Global,
-    keys: &Places<'_>,
-    kinds: &Places<'_>,
+    keys: &mut Names,
+    kinds: &mut Names,
     asset: PlainAsset,
 ) -> Result<AssetRow, NoMemory>
-    ensures { IfOk result (λ row. row ≡ numbered keys.now.texts.now kinds.now.texts.now asset) }
+    ensures keys { OnOk result (keys.new ≡ with_texts keys.old asset.keys) }
+    ensures kinds { OnOk result (kinds.new ≡ with_text kinds.old asset.kind) }
+    ensures row { IfOk result (λ row. row ≡ numbered keys.new kinds.new asset) }
 {
-    let kind = TypeNo(kinds.place(asset.kind.as_str()));
-    let numbers = key_numbers(alloc, keys, asset.keys.as_slice())?;
-    let PlainAsset { id, deps, .. } = asset;
+    let PlainAsset {
+        id,
+        kind,
+        deps,
+        keys: texts,
+    } = asset;
+    let kind = TypeNo(kinds.number(alloc, kind)?);
+    let numbers = number_keys(alloc, keys, texts.into_vec())?;
     Ok(AssetRow {
         id,
         kind,
@@ -103,12 +84,13 @@ fn numbered(
     })
 }
 
-fn key_numbers(alloc: Global, keys: &Places<'_>, texts: &[Text]) -> Result<Items<KeyNo>, NoMemory>
-    ensures { IfOk result (λ numbers. numbers ≡ map (λ t. record { 0 = place_of keys.now.texts.now t }) texts.now) }
+fn number_keys(alloc: Global, names: &mut Names, texts: Vec<Text>) -> Result<Items<KeyNo>, NoMemory>
+    ensures names { OnOk result (names.new ≡ with_texts names.old texts.items) }
+    ensures numbers { IfOk result (λ numbers. numbers ≡ map (λ t. record { 0 = place_of names.new t }) texts.items) }
 {
-    let mut numbers = Items::new(alloc);
+    let mut numbers = Vec::with_capacity(alloc, texts.len())?;
     for text in texts {
-        numbers.push(KeyNo(keys.place(text.as_str())))?;
+        numbers.push(KeyNo(names.number(alloc, text)?))?;
     }
-    Ok(numbers)
+    Ok(Items::from_vec(numbers))
 }
