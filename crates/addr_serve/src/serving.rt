@@ -1,5 +1,5 @@
 // Serving connections one after the other. A connection is finished before its line is written, whatever becomes of it.
-ghost use Rattle.std.specs.Prelude.{◌≡◌, IfSome};
+ghost use Rattle.std.specs.Prelude.{◌≡◌, ◌≢◌, IfSome};
 ghost use Rattle.addr_base.specs.Faults.{Rose};
 ghost use Rattle.addr_base.specs.Files.{SameStore};
 ghost use Rattle.addr_serve.specs.Lines.{served_line};
@@ -40,6 +40,7 @@ pub fn serve<D: Depot, L: Listen, K: Sink>(
     ensures serves { Serves folder.now (D.now depot.old).files connections (D.now depot.old).faults
         (D.now depot.new).faults result
         (L.now listen.old) (L.now listen.new) (K.now out.old).written (K.now out.new).written }
+    ensures asked { port ≢ 0 → result ≡ Ended.Done → IfSome (L.now listen.new).port (λ bound. bound ≡ port) }
     ensures net { result ≡ Ended.Net → Rose (L.now listen.old).faults (L.now listen.new).faults }
     ensures sink { SinkCause result (K.now out.old).faults (K.now out.new).faults }
     ensures same { SameStore (D.now depot.old) (D.now depot.new) }
@@ -65,6 +66,7 @@ fn serve_from<D: Depot, L: Listen, K: Sink>(
     ensures serves { Serves folder.now (D.now depot.old).files connections (D.now depot.old).faults
         (D.now depot.new).faults result
         (L.now listen.old) (L.now listen.new) (K.now out.old).written (K.now out.new).written }
+    ensures port { (L.now listen.new).port ≡ (L.now listen.old).port }
     ensures net { result ≡ Ended.Net → Rose (L.now listen.old).faults (L.now listen.new).faults }
     ensures sink { SinkCause result (K.now out.old).faults (K.now out.new).faults }
     ensures same { SameStore (D.now depot.old) (D.now depot.new) }
