@@ -1,8 +1,7 @@
 -- One more row or key, as at a step of a loop; and what every number and bundle that is found passes.
-use Rattle.std.proofs.Common.{zero, suc, ℕ, ◌≡◌, ◌==◌, ◌<◌, ◌≤◌, ◌+◌, ◌∙◌, Bool, true, false, not, ◌&&◌, ◌||◌, nat_lt, List, [], ◌∷◌, ◌++◌, length, get_or, take, drop, map, filter, refl, ap, sym, cond, arith, add-one, Option, Some, None, is_some, slice_get, drop-cons}
+use Rattle.std.proofs.Common.{zero, suc, ℕ, ◌≡◌, ◌==◌, ◌<◌, ◌≤◌, ◌+◌, ◌∙◌, Bool, true, false, not, ◌&&◌, ◌||◌, nat_lt, List, [], ◌∷◌, ◌++◌, length, get_or, take, drop, map, filter, refl, ap, sym, cond, arith, add-one, Option, slice_get, drop-cons}
 use Rattle.std.specs.List.{list_any, list_all, enumerate_from, flat_map}
 use Rattle.std.specs.Option.{option_map_or}
-use Rattle.std.proofs.lemmas.Bool.{false≢true}
 use Rattle.std.proofs.lemmas.Bool.Decides.{nat_tests}
 use Rattle.std.proofs.lemmas.List.{append-nil, take_more, length-take-le, map-append}
 use Rattle.std.proofs.lemmas.List.Elements.{filter-append}
@@ -53,15 +52,6 @@ rows_where_put test rows i row found within is passes was = rw (rows_where_more 
 
 pub rows_where_pass : (test : AssetRow → Bool) (rows : List AssetRow) (i : ℕ) (row : AssetRow) (found : List RowNo) → i < length rows → row ≡ get_or rows i row → test row ≡ false → found ≡ rows_where test (take i rows) → found ≡ rows_where test (take (i + 1) rows)
 rows_where_pass test rows i row found within is fails was = rw (rows_where_more test rows i row within is, fails, was) (sym (append-nil (rows_where test (take i rows))))
-
--- no row has a key that isn't in the catalogue
-filter-unknown : (kind : Kind) (n : ℕ) (rows : List AssetRow) → filter (λ (p : ℕ × AssetRow). is_match kind None p.1) (enumerate_from n rows) ≡ []
-filter-unknown kind n [] = refl
-filter-unknown kind n (row ∷ rows) = filter-unknown kind (n + 1) rows
-
-pub rows_where-unknown : (kind : Kind) (key : Option KeyNo) (rows : List AssetRow) → is_some key ≡ false → rows_where (is_match kind key) rows ≡ []
-rows_where-unknown kind None rows e = ap (map {B = RowNo} (λ (p : ℕ × AssetRow). record { 0 = p.0 })) (filter-unknown kind 0 rows)
-rows_where-unknown kind (Some key) rows e = absurd (false≢true (sym e))
 
 -- Keys
 

@@ -1,4 +1,4 @@
--- An index of texts with one more text.
+-- Texts that are numbered one after another, and the look-up of their places: one more text, and the numbers of whole rows.
 use Rattle.std.proofs.Common.{◌≡◌, ◌==◌, not, ℕ, ◌+◌, ◌≤◌, Bool, true, false, ◌||◌, nat_lt, cond, List, [], ◌∷◌, ◌++◌, length, Option, Some, None, is_some, refl, sym, ap, ◌∙◌, arith, position, length-append, add-zero, map, append_assoc, append-nil, unwrap_or}
 use Rattle.std.proofs.lemmas.Bool.{false≢true, ne_eqb}
 use borrow.Author.Tests.{ltb-true}

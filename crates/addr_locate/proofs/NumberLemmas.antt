@@ -6,7 +6,7 @@ use Rattle.std.specs.Str.{bytes_eq}
 use Rattle.std.proofs.lemmas.Bool.{ltb-false}
 use Rattle.std.proofs.lemmas.Bool.Decides.{same_from_decides}
 use Rattle.std.proofs.lemmas.Slice.Eq.{bytes_eq-Decides}
-use Rattle.std.proofs.lemmas.List.{append-nil, length-map}
+use Rattle.std.proofs.lemmas.List.{length-map}
 use Rattle.std.proofs.lemmas.List.Elements.{filter-append}
 use Rattle.std.proofs.lemmas.List.Folds.{list_any-append, list_all-map}
 use Rattle.std.proofs.lemmas.List.Sums.{prefix_len-le-length}
@@ -15,7 +15,7 @@ use Rattle.addr_locate.specs.declared.rows.AssetRow.{AssetRow}
 use Rattle.addr_locate.specs.declared.rows.BundleRow.{BundleRow}
 use Rattle.addr_locate.specs.declared.rows.PlainAsset.{PlainAsset}
 use Rattle.addr_locate.specs.Rows.{Rows, AreRows, texts_once, text_at, place_of, numbered, written, rows_of, keys_of, kinds_of, has_sound_deps, no_text_twice}
-use Rattle.addr_locate.proofs.TextLemmas.{same_texts, text_is_itself, any-texts_once, length-texts_once-le, place-within}
+use Rattle.addr_locate.proofs.TextLemmas.{same_texts, text_is_itself, any-texts_once, place-within}
 
 pub or_true : (b : Bool) → (b || true) ≡ true
 or_true true = refl
@@ -34,12 +34,6 @@ texts_once-snoc (x ∷ xs) t = rw (texts_once-snoc xs t, filter-append) (by_test
     by_tests true false e f = rw (e, f)
     by_tests false true e f = let turned : bytes_eq t x ≡ true = bytes_eq-sym t x ∙ f in rw (e, f, turned)
     by_tests false false e f = let turned : bytes_eq t x ≡ false = bytes_eq-sym t x ∙ f in rw (e, f, turned)
-
-pub text_put : (seen known : List (List ℕ)) (t : List ℕ) → known ≡ texts_once seen → list_any (λ u. bytes_eq u t) seen ≡ false → known ++ t ∷ [] ≡ texts_once (seen ++ t ∷ [])
-text_put seen known t same missing = rw (texts_once-snoc seen t, missing, same)
-
-pub text_pass : (seen known : List (List ℕ)) (t : List ℕ) → known ≡ texts_once seen → list_any (λ u. bytes_eq u t) seen ≡ true → known ≡ texts_once (seen ++ t ∷ [])
-text_pass seen known t same found = rw (texts_once-snoc seen t, found, same) (sym (append-nil (texts_once seen)))
 
 -- where a text is there, its place leads back to it
 place-or-end : (b : Bool) (n end : ℕ) → nat_lt n end ≡ b → n ≤ end → unwrap_or (cond b (Some n) None) end ≡ n
@@ -110,12 +104,6 @@ unfolding rows_of
 keys_below r are =
     let assets = map (written r) r.assets in
     subst (λ (q : Rows). list_all (λ (a : AssetRow). list_all (λ (k : KeyNo). nat_lt k.0 (length q.keys)) a.keys) q.assets ≡ true) are.numbers (below-rows (keys_of assets) (kinds_of assets) assets (λ t there. any-texts_once t (flat_map (λ a. a.keys) assets) ∙ there))
-
-pub few_kinds_of : (assets : List PlainAsset) → length (kinds_of assets) ≤ length assets
-few_kinds_of assets =
-    let kept = length-texts_once-le (map (λ a. a.kind) assets) in
-    let long : length (map (λ (a : PlainAsset). a.kind) assets) ≡ length assets = length-map assets (λ a. a.kind) in
-    omega arith
 
 -- the parts that `of_rows` puts together
 pub rows_of-made : (bundles held : List BundleRow) (assets : List PlainAsset) (rows : List AssetRow) (keys kinds : List (List ℕ)) → held ≡ bundles → rows ≡ map (numbered keys kinds) assets → keys ≡ keys_of assets → kinds ≡ kinds_of assets → record { bundles = held; assets = rows; keys = keys; kinds = kinds } ≡ rows_of bundles assets

@@ -1,5 +1,5 @@
--- Ordered maps of texts: which texts a map has, and the place that it keeps for each. And an ordered set of bundles' numbers.
-use Rattle.std.specs.Prelude.{◌≡◌, ◌==◌, ℕ, List, is_some, position}
+-- An ordered map of texts: which texts it has. And an ordered set of bundles' numbers.
+use Rattle.std.specs.Prelude.{◌≡◌, ◌==◌, ℕ, List, is_some}
 use Rattle.std.specs.Borrow.{Bor}
 use Rattle.std.specs.List.{list_any}
 use Rattle.std.specs.Ordering.{nat_cmp}
@@ -9,20 +9,10 @@ use Rattle.std.specs.BTreeMap.{BTreeMap, get_by}
 use Rattle.std.specs.BTreeSet.{BTreeSet, contains}
 use Rattle.addr_base.specs.declared.ids.BundleNo.{BundleNo}
 use Rattle.addr_locate.specs.Merge.{distinct}
-use Rattle.addr_locate.specs.Rows.{texts_once}
 
 -- the map has exactly these texts
 abbrev pub HoldsTexts : {X : Type 0} → List (List ℕ) → BTreeMap (Bor (List ℕ)) X → Type 0
 HoldsTexts texts seen = (text : List ℕ) → is_some (get_by (λ k. slice_cmp nat_cmp text k.now) seen) ≡ list_any (λ t. bytes_eq t text) texts
-
--- the map has for each text the first place where it stands, and no other text
-abbrev pub HoldsPlaces : List (List ℕ) → BTreeMap (Bor (List ℕ)) ℕ → Type 0
-HoldsPlaces texts places = (text : List ℕ) → get_by (λ k. slice_cmp nat_cmp text k.now) places ≡ position (λ t. bytes_eq t text) texts
-
--- each of the texts is listed once, where it stands first, and the map has exactly these texts
-pub record AreListed (texts once : List (List ℕ)) (seen : BTreeMap (Bor (List ℕ)) Unit) : Type 0 where
-  pub listed : once ≡ texts_once texts
-  pub holds : HoldsTexts texts seen
 
 -- the set has the numbers of the bundles, and no others
 unfoldable pub HasNumbers : BTreeSet ℕ → List BundleNo → Type 0

@@ -1,4 +1,4 @@
-use Rattle.std.proofs.Common.{◌≡◌, ◌∙◌, ◌++◌, ◌∷◌, [], ap, map, List}
+use Rattle.std.proofs.Common.{◌∙◌, ◌++◌, ◌∷◌, [], ap}
 use Rattle.addr_base.specs.declared.ids.KeyNo.{KeyNo}
 use Rattle.addr_locate.proofs.NameLemmas.{keys_more}
 use Rattle.addr_locate.proofs.numbering.number_keys.Goals as goal

@@ -1,4 +1,4 @@
-use Rattle.std.proofs.Common.{◌≡◌, ◌∙◌, None, position, length, rules, List, ℕ, ap, sym}
+use Rattle.std.proofs.Common.{◌≡◌, ◌∙◌, None, position, length, rules, ap, sym}
 use Rattle.std.specs.Str.{bytes_eq}
 use Rattle.addr_locate.specs.Rows.{place_of}
 use Rattle.addr_locate.proofs.NameLemmas.{with_text-known, with_text-new, place_of-new}
