@@ -4,3 +4,4 @@ pub mod OutcomeLemmas
 pub mod ListingLemmas
 pub mod PlanningLemmas
 pub mod PlayLemmas
+pub mod ServingLemmas

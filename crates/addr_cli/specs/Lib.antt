@@ -4,5 +4,6 @@ pub mod Outcome
 pub mod Planning
 pub mod Refusals
 pub mod Requests
+pub mod Serving
 pub mod SimText
 pub mod Words

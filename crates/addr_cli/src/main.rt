@@ -1,8 +1,9 @@
 //! The program: words, statuses, and the commands over the crates below.
 //!
 //! Promise: `run` ends as `specs/Outcome.antt` says of its words, the depot's files and the counts of faults; with status 0
-//! it prints exactly the text of its command. `main` calls `run` over the working folder and standard output.
-//! Left out: every command but `simulate`, `rows`, `inspect` and `plan`. Start: `specs/Words.antt`, `specs/Outcome.antt`, `src/runner.rt`.
+//! it prints exactly the text of its command; `run_live` ends as `specs/Serving.antt` says. `main` calls `run_live` where the
+//! first word is `serve`, else `run`, over the working folder, a listener on the loopback and standard output.
+//! Left out: every command but `simulate`, `rows`, `inspect`, `plan` and `serve`. Start: `specs/Words.antt`, `specs/Outcome.antt`, `src/runner.rt`.
 #![tactic(auto)]
 
 mod command;
@@ -13,31 +14,48 @@ mod planning;
 mod refusal;
 mod report;
 mod runner;
+mod serving;
 mod sim_image;
 mod simulator;
 mod status;
 #[cfg(test)]
 mod tests;
 
-use addr_base::{FolderDepot, NoMemory, OutSink, Text};
+use addr_base::{FolderDepot, NoMemory, OutSink, Sink, Text};
+use addr_fields::is_same;
+use addr_net::TcpListen;
 use refusal::Refusal;
 use report::report;
 use runner::run;
+use serving::run_live;
+use status::Status;
 use std::io::ErrorKind;
 use std::process::ExitCode;
 
 fn main(rt: HostRuntime) -> ExitCode {
     let mut out = OutSink::new(&rt);
     let status = match words(&rt) {
-        Ok(words) => run(
-            rt.alloc(),
-            words.as_slice(),
-            &mut FolderDepot::new(&rt),
-            &mut out,
-        ),
+        Ok(words) => run_words(&rt, words.as_slice(), &mut out),
         Err(refusal) => report(rt.alloc(), Err(refusal), &mut out),
     };
     ExitCode::from(status.0)
+}
+
+fn run_words<K: Sink>(rt: &HostRuntime, words: &[Text], out: &mut K) -> Status {
+    let mut depot = FolderDepot::new(rt);
+    if is_live(words) {
+        run_live(rt.alloc(), words, &mut depot, &mut TcpListen::new(rt), out)
+    } else {
+        run(rt.alloc(), words, &mut depot, out)
+    }
+}
+
+/// Whether the command waits for others.
+fn is_live(words: &[Text]) -> bool {
+    match words {
+        [command, ..] => is_same(command.as_bytes(), b"serve"),
+        [] => false,
+    }
 }
 
 /// The words of the command line without the program's name. One that isn't UTF-8 makes it a faulty one.

@@ -19,18 +19,27 @@ const USAGE_LINE: &[u8] = b"error 2 usage\n";
 
 /// Prints the text of a command or the line of its refusal; where that line finds no memory, the one that says so.
 pub fn report<K: Sink>(alloc: Global, ended: Result<Text, Refusal>, out: &mut K) -> Status
-    ensures prints { Prints (ended_status ended) (ended_text ended) result.0 (K.now out.old) (K.now out.new) ⊎ Prints 1 (codes "error 1 memory" ++ 10 ∷ []) result.0 (K.now out.old) (K.now out.new) }
+    ensures prints { Prints (ended_status ended) (ended_text ended) result.0 (K.now out.old) (K.now out.new)
+        ⊎ Prints 1 (codes "error 1 memory" ++ 10 ∷ []) result.0 (K.now out.old) (K.now out.new) }
     ensures usage { ended ≡ Err Usage → (result.0 ≡ 2) ⊎ (result.0 ≡ 13) }
     ensures once { (K.now out.new).puts ≡ one_more (K.now out.old).puts }
 {
     match ended {
         Ok(text) => print(out, text.as_bytes(), Status::DONE),
-        Err(Refusal::Usage) => print(out, USAGE_LINE, Refusal::Usage.status()),
+        Err(Refusal::Usage) => print_usage(out),
         Err(refusal) => match refusal_line(alloc, &refusal) {
             Ok(line) => print(out, line.as_bytes(), refusal.status()),
             Err(NoMemory) => print(out, MEMORY_LINE, Refusal::NoMemory.status()),
         },
     }
+}
+
+/// Prints the line of words that are no command's.
+pub fn print_usage<K: Sink>(out: &mut K) -> Status
+    ensures prints { Prints 2 (codes "error 2 usage" ++ 10 ∷ []) result.0 (K.now out.old) (K.now out.new) }
+    ensures once { (K.now out.new).puts ≡ one_more (K.now out.old).puts }
+{
+    print(out, USAGE_LINE, Status(2))
 }
 
 /// Puts a whole text, whose status it answers unless the sink fails.

@@ -24,7 +24,8 @@ pub fn run<D: Depot, K: Sink>(alloc: Global, words: &[Text], depot: &mut D, out:
     ensures outcome { RunsTo words.now (D.now depot.old) (D.now depot.new) (K.now out.old) (K.now out.new) result.0 }
     ensures causes { HasCauses (D.now depot.old) (D.now depot.new) (K.now out.old) (K.now out.new) result.0 }
     ensures usage { IsUsage words.now result.0 }
-    ensures complete { IsComplete words.now (D.now depot.old) (D.now depot.new) (K.now out.old) (K.now out.new) result.0 }
+    ensures complete { IsComplete words.now (D.now depot.old) (D.now depot.new) (K.now out.old)
+        (K.now out.new) result.0 }
     ensures one_put { (K.now out.new).puts ≡ one_more (K.now out.old).puts }
     ensures same { SameStore (D.now depot.old) (D.now depot.new) }
 {

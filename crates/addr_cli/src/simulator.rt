@@ -135,8 +135,11 @@ fn load(
     keys: &Items<Text>,
 ) -> Result<Reply, NoMemory>
     requires { length ask.keys < 2 ^ 32 }
-    ensures reply { IfOk result (λ reply. reply ≡ load_answer keys.now (load_reply core.old.rows core.old.limit core.old.history ask)) }
-    ensures grows { OnOk result (core.new ≡ grown core.old (load_adds (load_reply core.old.rows core.old.limit core.old.history ask) caller ask)) }
+    ensures reply { IfOk result
+        (λ reply. reply ≡ load_answer keys.now (load_reply core.old.rows core.old.limit core.old.history ask)) }
+    ensures grows { OnOk result
+        (core.new ≡ grown core.old
+        (load_adds (load_reply core.old.rows core.old.limit core.old.history ask) caller ask)) }
 {
     match core.load(caller, ask) {
         Ok(op) => Ok(Reply::Opened(op)),

@@ -9,4 +9,7 @@ impl Status {
 
     /// The sink failed; it stands in place of any other status.
     pub const SINK_FAULT: Status = Status(13);
+
+    /// The listener failed.
+    pub const NET_FAULT: Status = Status(14);
 }

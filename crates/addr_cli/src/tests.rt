@@ -15,6 +15,7 @@ mod faulty;
 mod inspected;
 mod interleavings;
 mod planned;
+mod served;
 mod worked;
 
 const WORDS: &str = "simulate r s";
