@@ -1,6 +1,6 @@
 -- Texts numbered and written back: one more text at a step of a loop, the place of a text, and that the rows which
 -- `of_rows` makes are those that every locator keeps.
-use Rattle.std.proofs.Common.{suc, ◌+◌, ℕ, ◌≡◌, ◌≤◌, ◌<◌, ◌^◌, ◌∙◌, Bool, true, false, not, ◌||◌, nat_lt, Some, None, unwrap_or, List, [], ◌∷◌, ◌++◌, length, map, filter, refl, ap, sym, cond, arith, IsTrue, subst}
+use Rattle.std.proofs.Common.{suc, ◌+◌, ℕ, ◌≡◌, ◌≤◌, ◌<◌, ◌^◌, ◌∙◌, Bool, true, false, not, ◌||◌, nat_lt, Some, None, unwrap_or, List, [], ◌∷◌, ◌++◌, append-nil, length, map, filter, refl, ap, sym, cond, arith, IsTrue, subst}
 use Rattle.std.specs.List.{list_any, list_all, flat_map, position, position_or_len}
 use Rattle.std.specs.Str.{bytes_eq}
 use Rattle.std.proofs.lemmas.Bool.{ltb-false}
@@ -34,6 +34,12 @@ texts_once-snoc (x ∷ xs) t = rw (texts_once-snoc xs t, filter-append) (by_test
     by_tests true false e f = rw (e, f)
     by_tests false true e f = let turned : bytes_eq t x ≡ true = bytes_eq-sym t x ∙ f in rw (e, f, turned)
     by_tests false false e f = let turned : bytes_eq t x ≡ false = bytes_eq-sym t x ∙ f in rw (e, f, turned)
+
+pub text_put : (seen known : List (List ℕ)) (t : List ℕ) → known ≡ texts_once seen → list_any (λ u. bytes_eq u t) seen ≡ false → known ++ t ∷ [] ≡ texts_once (seen ++ t ∷ [])
+text_put seen known t same missing = rw (texts_once-snoc seen t, missing, same)
+
+pub text_pass : (seen known : List (List ℕ)) (t : List ℕ) → known ≡ texts_once seen → list_any (λ u. bytes_eq u t) seen ≡ true → known ≡ texts_once (seen ++ t ∷ [])
+text_pass seen known t same found = rw (texts_once-snoc seen t, found, same) (sym (append-nil (texts_once seen)))
 
 -- where a text is there, its place leads back to it
 place-or-end : (b : Bool) (n end : ℕ) → nat_lt n end ≡ b → n ≤ end → unwrap_or (cond b (Some n) None) end ≡ n

@@ -5,9 +5,11 @@ use Rattle.std.specs.Str.{bytes_eq}
 use Rattle.std.proofs.lemmas.Slice.Eq.{bytes_eq-Decides}
 use Rattle.std.specs.Option.{is_some}
 use Rattle.std.proofs.lemmas.List.Folds.{list_any-append}
+use Rattle.std.proofs.lemmas.List.{length-map}
 use Rattle.std.proofs.lemmas.Bool.Decides.{nat_tests}
 use Rattle.addr_base.specs.declared.ids.KeyNo.{KeyNo}
 use Rattle.addr_locate.specs.declared.rows.AssetRow.{AssetRow}
+use Rattle.addr_locate.specs.declared.rows.PlainAsset.{PlainAsset}
 use Rattle.addr_locate.specs.Rows.{Rows, texts_once, text_at, written, has_key_text, has_kind_text, rows_of, keys_of, kinds_of}
 
 pub same_texts : (t u : List ℕ) → bytes_eq t u ≡ true → t ≡ u
@@ -92,3 +94,11 @@ key_known r text keys found numbers same place =
 pub kind_known : (r : Rows) (text : List ℕ) (kinds : List (List ℕ)) (found : Option ℕ) → rows_of r.bundles (map (written r) r.assets) ≡ r → kinds ≡ r.kinds → found ≡ position (λ t. bytes_eq t text) kinds → is_some found ≡ list_any (has_kind_text r text) r.assets
 kind_known r text kinds found numbers same place =
     ap is_some place ∙ (is_some-position (λ t. bytes_eq t text) kinds ∙ (ap (list_any (λ t. bytes_eq t text)) (same ∙ kinds-are-once r numbers) ∙ (any-texts_once text (map (λ a. a.kind) (map (written r) r.assets)) ∙ any-row_kinds r text r.assets)))
+
+-- there are no more types than rows
+pub few_kinds : (r : Rows) → rows_of r.bundles (map (written r) r.assets) ≡ r → length r.kinds ≤ length r.assets
+few_kinds r numbers =
+    let kept = length-texts_once-le (map (λ a. a.kind) (map (written r) r.assets)) in
+    let long : length (map (λ (a : PlainAsset). a.kind) (map (written r) r.assets)) ≡ length r.assets = simp length-map in
+    let same = ap length (kinds-are-once r numbers) in
+    omega arith
