@@ -1,5 +1,5 @@
 -- The words of `serve` ask for one thing.
-use Rattle.std.proofs.Common.{◌≡◌, ◌∙◌, ◌<◌, ◌≤◌, ◌^◌, ℕ, List, [], ◌∷◌, sym, ap, arith, decimal, get_or}
+use Rattle.std.proofs.Common.{◌≡◌, ◌∙◌, ℕ, List, [], sym, ap, arith, get_or}
 use Rattle.std.proofs.lemmas.Fmt.{decimal_injective}
 use Rattle.addr_fields.specs.Fields.{IsNumber}
 use Rattle.addr_cli.specs.Serving.{AsksToServe, IsConnections}

@@ -26,7 +26,7 @@ pub fn report<K: Sink>(alloc: Global, ended: Result<Text, Refusal>, out: &mut K)
 {
     match ended {
         Ok(text) => print(out, text.as_bytes(), Status::DONE),
-        Err(Refusal::Usage) => print_usage(out),
+        Err(Refusal::Usage) => print(out, USAGE_LINE, Refusal::Usage.status()),
         Err(refusal) => match refusal_line(alloc, &refusal) {
             Ok(line) => print(out, line.as_bytes(), refusal.status()),
             Err(NoMemory) => print(out, MEMORY_LINE, Refusal::NoMemory.status()),

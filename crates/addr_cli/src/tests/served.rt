@@ -1,4 +1,8 @@
 // `serve` over a listener in memory: its lines and statuses, and words that are usage.
+ghost use Rattle.std.specs.Prelude.{IfOk};
+ghost use Rattle.addr_wire.specs.MemListeners.{listen_now};
+ghost use Rattle.addr_serve.specs.Loops.{IsAhead};
+
 use super::{one_file, words_of};
 use crate::serving::run_live;
 use crate::status::Status;
@@ -8,7 +12,9 @@ use std::alloc::Global;
 use std::test::Fail;
 
 /// A listener with a connection that asks for `/remote/a`, and one that asks for `/remote/b`.
-fn two_peers(alloc: Global, fails: u32) -> Result<MemListen, Fail> {
+fn two_peers(alloc: Global, fails: u32) -> Result<MemListen, Fail>
+    ensures { IfOk result (λ listen. IsAhead (listen_now listen).conns) }
+{
     let mut conns = Vec::new(alloc);
     for request in [
         "GET /remote/a HTTP/1.1\r\nHost: x\r\n\r\n",
@@ -17,7 +23,8 @@ fn two_peers(alloc: Global, fails: u32) -> Result<MemListen, Fail> {
         let input = Vec::from_slice(alloc, request.as_bytes())?;
         conns.push(MemConn::new(alloc, input, Vec::new(alloc)))?;
     }
-    Ok(MemListen::new(alloc, conns, Vec::from_slice(alloc, &[fails])?)?)
+    let fails = Vec::from_slice(alloc, &[fails])?;
+    Ok(MemListen::new(alloc, conns, fails)?)
 }
 
 /// Whether serving two peers ends with this status and prints this text, where that call of the listener is to fail.
