@@ -11,25 +11,14 @@ ghost use Rattle.addr_core.specs.within.Prepare.{Prepares};
 use crate::now::Now;
 use addr_base::{BundleNo, Items, KeyNo, NoMemory, RowNo};
 use addr_history::{Ask, LoadErr};
-use addr_locate::{AssetRow, Kind, Locator, is_match};
+use addr_locate::{Kind, Locator};
 use std::alloc::Global;
 
-/// Whether a row of the asked kind has the key; a key that no row has needs no walk.
-#[tactic(auto, using(crate::proofs::Preparing::no_key_matches))]
-fn has_row(assets: &[AssetRow], kind: Kind, key: Option<KeyNo>) -> bool
-    ensures { result ≡ list_any (is_match kind key) assets.now }
-{
-    match key {
-        Some(_) => assets.iter().any(|row| is_match(kind, key, row)),
-        None => false,
-    }
-}
-
-fn missing_place(assets: &[AssetRow], keys: &[Option<KeyNo>], kind: Kind) -> Option<usize>
-    ensures place { result ≡ position (λ key. not (list_any (is_match kind key) assets.now)) keys.now }
+fn missing_place(locator: &Locator, keys: &[Option<KeyNo>], kind: Kind) -> Option<usize>
+    ensures place { result ≡ position (λ key. not (list_any (is_match kind key) locator.now.assets)) keys.now }
     ensures within { IfSome result (λ place. place < length keys.now) }
 {
-    keys.iter().position(|key| !has_row(assets, kind, *key))
+    keys.iter().position(|key| !locator.has_row(*key, kind))
 }
 
 /// The place of the first key that no row of the asked kind has.
@@ -38,7 +27,7 @@ fn first_missing(locator: &Locator, ask: &Ask) -> Option<u32>
     requires { length ask.now.keys < 2 ^ 32 }
     ensures { result ≡ first_missing locator.now ask.now }
 {
-    match missing_place(locator.assets(), ask.keys.as_slice(), ask.kind) {
+    match missing_place(locator, ask.keys.as_slice(), ask.kind) {
         Some(place) => Some(place as u32),
         None => None,
     }

@@ -20,7 +20,8 @@ pub struct Slot {
 impl Slot {
     /// Where the bundle is.
     pub fn state(self) -> BundleState
-        ensures { result ≡ (if self.resident then Resident else if is_some self.fetcher then Fetching else if self.queued then Queued else Absent) }
+        ensures { result ≡ (if self.resident then Resident else if is_some self.fetcher then Fetching
+            else if self.queued then Queued else Absent) }
     {
         if self.resident {
             BundleState::Resident

@@ -38,6 +38,12 @@ pub record KeepsRules (before : Origin) (id : List ℕ) (limit : ℕ) (answer : 
   pub same : after.files ≡ before.files
   pub told : IfSome before.files (λ files. AnswersFile files id limit answer)
 
+-- whatever fetchers that are seen so give keeps the rules
+abbrev pub AllKeepRules : {F : Type 0} → (F → Origin) → (F → List ℕ → ℕ → Fetched → F → Type 0) → Type 0
+AllKeepRules {F} now gives =
+    (before after : F) (id : List ℕ) (limit : ℕ) (answer : Fetched)
+    → gives before id limit answer after → KeepsRules (now before) id limit answer (now after)
+
 -- what a call that pours answers: with the whole file its length, and else what the fetch gives, after a part was poured
 abbrev pub PouredAs : (List ℕ → Type 0) → (Fetched → Type 0) → Poured → Type 0
 PouredAs Took Gives (poured.Whole n) = (bytes : List ℕ) × Took bytes × (length bytes ≡ n) × Gives (Given bytes)

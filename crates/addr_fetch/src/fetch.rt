@@ -1,6 +1,6 @@
 // Fetchers: an id is asked for with a limit, and the bytes are poured as they come.
 ghost use Rattle.std.specs.Prelude.{◌≡◌, ◌<◌, ◌-◌, ◌^◌, ◌++◌, List, ℕ};
-ghost use Rattle.addr_fetch.specs.Gives.{KeepsRules, Origin, PouredAs};
+ghost use Rattle.addr_fetch.specs.Gives.{AllKeepRules, Origin, PouredAs};
 ghost use Rattle.addr_fetch.specs.declared.fetch.Fetched.{Fetched as Answer};
 
 use crate::collecting::Collected;
@@ -72,5 +72,5 @@ pub trait Fetch {
     }
 
     /// Whatever a fetcher gives keeps the rules of all fetchers.
-    ghost keeps: { (before after : Self) (id : List ℕ) (limit : ℕ) (answer : Answer) → gives before id limit answer after → KeepsRules (now before) id limit answer (now after) };
+    ghost keeps: { AllKeepRules now gives };
 }

@@ -1,6 +1,6 @@
 // What no clause says: that each call can succeed, and what is read below a real folder.
-use crate::{Collected, Fetch, Fetched, FolderFetch, Gate, MemFetch, OpenGate, Poured};
-use addr_base::{BundleNo, Items, MemFile, Text};
+use crate::{Collected, Fetch, Fetched, FolderFetch, Gate, MemFetch, OpenGate, Poured, Pour};
+use addr_base::{BundleNo, Items, MemFile, NoMemory, Text};
 use std::alloc::Global;
 use std::fs;
 use std::test::Fail;
@@ -14,8 +14,72 @@ fn one_file(alloc: Global, name: &str, bytes: &[u8]) -> Result<Vec<MemFile>, Fai
     Ok(files)
 }
 
+/// What was poured, and the length of each piece.
+struct Pieces {
+    bytes: Vec<u8>,
+    lengths: Vec<usize>,
+}
+
+impl Pour for Pieces {
+    ghost use Rattle.std.specs.Prelude.{◌≡◌};
+
+    type Fixed = ();
+
+    ghost took = { λ pieces fed. pieces.bytes.items ≡ fed };
+
+    ghost fixed = { λ _. tt };
+
+    fn pour(&mut self, piece: &[u8]) -> Result<(), NoMemory> {
+        self.lengths.push(piece.len())?;
+        self.bytes.extend_from_slice(piece)?;
+        Ok(())
+    }
+}
+
+fn pieces(alloc: Global) -> Pieces {
+    Pieces {
+        bytes: Vec::new(alloc),
+        lengths: Vec::new(alloc),
+    }
+}
+
 #[test]
-fn pours_whole_files_in_pieces(rt: HostRuntime) -> Result<(), Fail> {
+fn pours_in_pieces_of_the_size_that_is_set(rt: HostRuntime) -> Result<(), Fail> {
+    let files = one_file(rt.alloc(), "local/a", b"12345")?;
+    let mut fetch = MemFetch::new(files, Vec::new(rt.alloc()));
+    let mut into = pieces(rt.alloc());
+    fetch.set_piece(2);
+    assert_eq!(rt; fetch.fetch_to(rt.alloc(), "local/a", 5, &mut into), Poured::Whole(5));
+    assert_eq!(rt; into.bytes.as_slice(), b"12345".as_slice());
+    assert_eq!(rt; into.lengths.as_slice(), [2, 2, 1].as_slice());
+    Ok(())
+}
+
+/// As many bytes as the last argument says, each its place's low byte.
+fn patterned(alloc: Global, len: usize) -> Result<Vec<u8>, Fail> {
+    let mut bytes = Vec::new(alloc);
+    for place in 0..len {
+        bytes.push(place as u8)?;
+    }
+    Ok(bytes)
+}
+
+#[test]
+fn pours_what_a_real_file_holds(rt: HostRuntime) -> Result<(), Fail> {
+    let bytes = patterned(rt.alloc(), 70_000)?;
+    assert!(rt; fs::create_dir_all(&rt, "pour_test").is_ok());
+    assert!(rt; fs::write(&rt, "pour_test/a", bytes.as_slice()).is_ok());
+    let mut fetch = FolderFetch::new(&rt, Text::copy_of(rt.alloc(), "pour_test")?);
+    let mut into = pieces(rt.alloc());
+    assert_eq!(rt; fetch.fetch_to(rt.alloc(), "a", 70_000, &mut into), Poured::Whole(70_000));
+    assert_eq!(rt; into.bytes.as_slice(), bytes.as_slice());
+    assert!(rt; into.lengths.len() > 1);
+    assert!(rt; fs::remove_dir_all(&rt, "pour_test").is_ok());
+    Ok(())
+}
+
+#[test]
+fn a_file_is_whole_however_it_is_cut(rt: HostRuntime) -> Result<(), Fail> {
     let files = one_file(rt.alloc(), "local/a", b"12345")?;
     let mut fetch = MemFetch::new(files, Vec::from_slice(rt.alloc(), &[4])?);
     for (piece, limit, want) in [

@@ -119,6 +119,37 @@ matching_listed rows postings kind key lists =
     ap (filter (is_kind_at kind rows)) (lists key)
     ∙ numbered_in rows (has_key key) (is_kind kind) 0 rows (λ k. let same : 0 + k ≡ k = omega arith in ap (slice_get rows) same)
 
+-- Whether there is one
+
+-- whether a list has an element
+has_some : {A : Type 0} → List A → Bool
+has_some [] = false
+has_some (x ∷ xs) = true
+
+some_kept : {A : Type 0} (p : A → Bool) (xs : List A) → list_any p xs ≡ has_some (filter p xs)
+some_kept p [] = refl
+some_kept p (x ∷ xs) = by (p x) refl
+  where
+    by : (t : Bool) → p x ≡ t → list_any p (x ∷ xs) ≡ has_some (filter p (x ∷ xs))
+    by true is = ap (λ t. t || list_any p xs) is ∙ sym (ap (λ t. has_some (cond t (x ∷ filter p xs) (filter p xs))) is)
+    by false is = ap (λ t. t || list_any p xs) is ∙ some_kept p xs ∙ sym (ap (λ t. has_some (cond t (x ∷ filter p xs) (filter p xs))) is)
+
+some_mapped : {A B : Type 0} (f : A → B) (xs : List A) → has_some (map f xs) ≡ has_some xs
+some_mapped f [] = refl
+some_mapped f (x ∷ xs) = refl
+
+any_numbered : (p : AssetRow → Bool) (n : ℕ) (rows : List AssetRow) → list_any (λ (x : ℕ × AssetRow). p x.1) (enumerate_from n rows) ≡ list_any p rows
+any_numbered p n [] = refl
+any_numbered p n (row ∷ rows) = ap (λ t. p row || t) (any_numbered p (n + 1) rows)
+
+pub any_listed : (rows : List AssetRow) (postings : List (List RowNo)) (kind : Kind) (key : Option KeyNo) → ListsRows rows postings → list_any (is_kind_at kind rows) (listed postings key) ≡ list_any (is_match kind key) rows
+any_listed rows postings kind key lists =
+    some_kept (is_kind_at kind rows) (listed postings key)
+    ∙ ap has_some (matching_listed rows postings kind key lists)
+    ∙ some_mapped (λ (x : ℕ × AssetRow). row_no x.0) (filter (λ (x : ℕ × AssetRow). is_match kind key x.1) (enumerate_from 0 rows))
+    ∙ sym (some_kept (λ (x : ℕ × AssetRow). is_match kind key x.1) (enumerate_from 0 rows))
+    ∙ any_numbered (is_match kind key) 0 rows
+
 -- Some key
 
 numbers_back : (xs : List (ℕ × AssetRow)) → map (λ (r : RowNo). r.0) (map (λ (p : ℕ × AssetRow). row_no p.0) xs) ≡ map (λ (p : ℕ × AssetRow). p.0) xs

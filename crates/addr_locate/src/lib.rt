@@ -26,7 +26,6 @@ mod texts;
 pub use error::RowsErr;
 pub use laws::plain_laws;
 pub use locator::Locator;
-pub use merging::is_match;
 pub use numbering::of_rows;
 pub use plain_reader::read_rows;
 pub use plain_writer::write_rows;

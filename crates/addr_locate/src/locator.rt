@@ -3,11 +3,11 @@ ghost use Rattle.std.specs.Prelude.{◌≡◌, ◌<◌, ◌^◌, length, nat_lt,
 ghost use Rattle.std.specs.List.{list_all, list_any};
 ghost use Rattle.std.specs.Option.{option_copied};
 ghost use Rattle.addr_locate.specs.Evaluated.{evaluated};
-ghost use Rattle.addr_locate.specs.Merge.{merged, deps_of};
+ghost use Rattle.addr_locate.specs.Merge.{is_match, merged, deps_of};
 ghost use Rattle.addr_locate.specs.Rows.{AreRows, has_sound_deps, are_bundles, no_repeats, key_of, kind_of, has_key_text, has_kind_text};
 
 use crate::evaluation::evaluated_bundles;
-use crate::merging::{distinct_deps, merge_rows};
+use crate::merging::{distinct_deps, has_match, merge_rows};
 use crate::names::Names;
 use crate::rows::{AssetRow, BundleRow, Kind, Merge};
 use crate::texts::text_at;
@@ -128,6 +128,18 @@ impl Locator {
             keys,
             mode,
             kind,
+        )
+    }
+
+    /// Whether some asset row of the kind has the key: a walk over the key's own rows. No row has a key that is `None`.
+    pub fn has_row(&self, key: Option<KeyNo>, kind: Kind) -> bool
+        ensures { result ≡ list_any (is_match kind key) self.now.assets }
+    {
+        has_match(
+            self.assets.as_slice(),
+            self.postings.as_slice(),
+            kind,
+            key,
         )
     }
 

@@ -40,7 +40,7 @@ fn has_key(key: Option<KeyNo>, row: &AssetRow) -> bool
 }
 
 /// Whether the row has the key and is of the asked kind.
-pub fn is_match(kind: Kind, key: Option<KeyNo>, row: &AssetRow) -> bool
+fn is_match(kind: Kind, key: Option<KeyNo>, row: &AssetRow) -> bool
     ensures { result ≡ is_match kind key row.now }
 {
     has_key(key, row) && is_kind(kind, row)
@@ -74,6 +74,21 @@ fn matching(
         }
     }
     Ok(found)
+}
+
+/// Whether some row has the key and is of the asked kind: a walk over the key's own rows.
+pub(crate) fn has_match(
+    rows: &[AssetRow],
+    postings: &[Items<RowNo>],
+    kind: Kind,
+    key: Option<KeyNo>,
+) -> bool
+    requires { ListsRows rows.now postings.now }
+    ensures { result ≡ list_any (is_match kind key) rows.now }
+{
+    rows_of_key(postings, key)
+        .iter()
+        .any(|row| is_kind_at(kind, rows, *row))
 }
 
 /// The rows of the first key that has any of the asked kind.

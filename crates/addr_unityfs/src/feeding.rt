@@ -14,26 +14,35 @@ ghost use Rattle.addr_unityfs.specs.declared.stage.Stage.TheVariants.{Bad};
 use crate::arriving::{Arrived, BundleReader};
 use crate::bundle::Bundle;
 use crate::error::FsErr;
+use crate::header::header_of;
 use crate::reader::read_bundle;
+use crate::sections::sections_of;
 use crate::stage::{Stage, advance};
 use addr_base::{Digest, Items, NoMemory};
 use sha2::{Digest as HashFunction, Sha256};
 use std::alloc::Global;
 
+/// Whether a file of so many bytes may begin with these, which hold its whole header.
+fn holds_header(total: u64, bytes: &[u8]) -> bool {
+    match header_of(bytes) {
+        Ok((head, end)) => end <= total && sections_of(total, head, end).is_ok(),
+        Err(_) => false,
+    }
+}
+
 /// Room for the rest of the file, once its header says its length, so that no byte is moved when more come. Where it is
-/// refused the pieces ask for room as they come, since the rest may never do.
-fn make_room(stage: Stage, room: u64, kept: &mut Vec<u8>)
+/// refused the pieces ask for room as they come, since the rest may never do. A first piece says it with its own header.
+fn make_room(total: u64, stage: Stage, room: u64, kept: &mut Vec<u8>, piece: &[u8])
     ensures { kept.new.items ≡ kept.old.items }
 {
-    match stage {
-        Stage::Info { .. } => {
-            let _ = kept.reserve_exact(room as usize);
-        }
-        Stage::Rest => {
-            let _ = kept.reserve_exact(room as usize);
-        }
-        Stage::Head { .. } => {}
-        Stage::Bad(_) => {}
+    let is_known = match stage {
+        Stage::Info { .. } => true,
+        Stage::Rest => true,
+        Stage::Head { .. } => kept.is_empty() && holds_header(total, piece),
+        Stage::Bad(_) => false,
+    };
+    if is_known {
+        let _ = kept.reserve_exact(room as usize);
     }
 }
 
@@ -63,7 +72,7 @@ fn keep(
     } else {
         room as usize
     };
-    make_room(stage, room, kept);
+    make_room(total, stage, room, kept, piece);
     kept.extend_from_slice(&piece[..len])?;
     match advance(alloc, total, stage, before, kept) {
         Ok(next) => Ok(next),

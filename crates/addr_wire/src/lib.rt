@@ -12,8 +12,6 @@ mod listen;
 mod mem_conn;
 mod mem_connect;
 mod mem_listen;
-#[cfg(test)]
-mod tests;
 
 pub use conn::Conn;
 pub use connect::Connect;

@@ -1,1 +1,0 @@
-// What no clause says: that the fakes succeed where memory is ample.
