@@ -15,6 +15,7 @@ fn one_file(alloc: Global, name: &str, bytes: &[u8]) -> Result<Vec<MemFile>, Fai
 }
 
 /// What was poured, and the length of each piece.
+#[derive(Drop)]
 struct Pieces {
     bytes: Vec<u8>,
     lengths: Vec<usize>,
@@ -36,7 +37,7 @@ impl Pour for Pieces {
     }
 }
 
-fn pieces(alloc: Global) -> Pieces {
+fn no_pieces(alloc: Global) -> Pieces {
     Pieces {
         bytes: Vec::new(alloc),
         lengths: Vec::new(alloc),
@@ -47,7 +48,7 @@ fn pieces(alloc: Global) -> Pieces {
 fn pours_in_pieces_of_the_size_that_is_set(rt: HostRuntime) -> Result<(), Fail> {
     let files = one_file(rt.alloc(), "local/a", b"12345")?;
     let mut fetch = MemFetch::new(files, Vec::new(rt.alloc()));
-    let mut into = pieces(rt.alloc());
+    let mut into = no_pieces(rt.alloc());
     fetch.set_piece(2);
     assert_eq!(rt; fetch.fetch_to(rt.alloc(), "local/a", 5, &mut into), Poured::Whole(5));
     assert_eq!(rt; into.bytes.as_slice(), b"12345".as_slice());
@@ -55,11 +56,11 @@ fn pours_in_pieces_of_the_size_that_is_set(rt: HostRuntime) -> Result<(), Fail> 
     Ok(())
 }
 
-/// As many bytes as the last argument says, each its place's low byte.
+/// So many bytes, which repeat after 251.
 fn patterned(alloc: Global, len: usize) -> Result<Vec<u8>, Fail> {
     let mut bytes = Vec::new(alloc);
     for place in 0..len {
-        bytes.push(place as u8)?;
+        bytes.push((place % 251) as u8)?;
     }
     Ok(bytes)
 }
@@ -70,7 +71,7 @@ fn pours_what_a_real_file_holds(rt: HostRuntime) -> Result<(), Fail> {
     assert!(rt; fs::create_dir_all(&rt, "pour_test").is_ok());
     assert!(rt; fs::write(&rt, "pour_test/a", bytes.as_slice()).is_ok());
     let mut fetch = FolderFetch::new(&rt, Text::copy_of(rt.alloc(), "pour_test")?);
-    let mut into = pieces(rt.alloc());
+    let mut into = no_pieces(rt.alloc());
     assert_eq!(rt; fetch.fetch_to(rt.alloc(), "a", 70_000, &mut into), Poured::Whole(70_000));
     assert_eq!(rt; into.bytes.as_slice(), bytes.as_slice());
     assert!(rt; into.lengths.len() > 1);

@@ -122,17 +122,17 @@ matching_listed rows postings kind key lists =
 -- Whether there is one
 
 -- whether a list has an element
-has_some : {A : Type 0} → List A → Bool
+abbrev has_some : {A : Type 0} → List A → Bool
 has_some [] = false
 has_some (x ∷ xs) = true
 
 some_kept : {A : Type 0} (p : A → Bool) (xs : List A) → list_any p xs ≡ has_some (filter p xs)
 some_kept p [] = refl
-some_kept p (x ∷ xs) = by (p x) refl
+some_kept p (x ∷ xs) = by (p x) refl (some_kept p xs)
   where
-    by : (t : Bool) → p x ≡ t → list_any p (x ∷ xs) ≡ has_some (filter p (x ∷ xs))
-    by true is = ap (λ t. t || list_any p xs) is ∙ sym (ap (λ t. has_some (cond t (x ∷ filter p xs) (filter p xs))) is)
-    by false is = ap (λ t. t || list_any p xs) is ∙ some_kept p xs ∙ sym (ap (λ t. has_some (cond t (x ∷ filter p xs) (filter p xs))) is)
+    by : (t : Bool) → p x ≡ t → list_any p xs ≡ has_some (filter p xs) → list_any p (x ∷ xs) ≡ has_some (filter p (x ∷ xs))
+    by true is rest = ap (λ t. t || list_any p xs) is ∙ sym (ap (λ t. has_some (cond t (x ∷ filter p xs) (filter p xs))) is)
+    by false is rest = ap (λ t. t || list_any p xs) is ∙ rest ∙ sym (ap (λ t. has_some (cond t (x ∷ filter p xs) (filter p xs))) is)
 
 some_mapped : {A B : Type 0} (f : A → B) (xs : List A) → has_some (map f xs) ≡ has_some xs
 some_mapped f [] = refl

@@ -76,6 +76,12 @@ fn matching(
     Ok(found)
 }
 
+fn any_is_kind(kind: Kind, rows: &[AssetRow], listed: &[RowNo]) -> bool
+    ensures { result ≡ list_any (is_kind_at kind rows.now) listed.now }
+{
+    listed.iter().any(|row| is_kind_at(kind, rows, *row))
+}
+
 /// Whether some row has the key and is of the asked kind: a walk over the key's own rows.
 pub(crate) fn has_match(
     rows: &[AssetRow],
@@ -86,9 +92,7 @@ pub(crate) fn has_match(
     requires { ListsRows rows.now postings.now }
     ensures { result ≡ list_any (is_match kind key) rows.now }
 {
-    rows_of_key(postings, key)
-        .iter()
-        .any(|row| is_kind_at(kind, rows, *row))
+    any_is_kind(kind, rows, rows_of_key(postings, key))
 }
 
 /// The rows of the first key that has any of the asked kind.
