@@ -1,5 +1,5 @@
 // What no clause says: that each call can succeed, and what is read below a real folder.
-use crate::{Collected, Fetch, Fetched, FolderFetch, Gate, MemFetch, OpenGate, Poured, Pour};
+use crate::{Collected, Fetch, Fetched, FolderFetch, Gate, MemFetch, OpenGate, Pour, Poured};
 use addr_base::{BundleNo, Items, MemFile, NoMemory, Text};
 use std::alloc::Global;
 use std::fs;
@@ -50,7 +50,10 @@ fn pours_in_pieces_of_the_size_that_is_set(rt: HostRuntime) -> Result<(), Fail> 
     let mut fetch = MemFetch::new(files, Vec::new(rt.alloc()));
     let mut into = no_pieces(rt.alloc());
     fetch.set_piece(2);
-    assert_eq!(rt; fetch.fetch_to(rt.alloc(), "local/a", 5, &mut into), Poured::Whole(5));
+    assert_eq!(rt;
+        fetch.fetch_to(rt.alloc(), "local/a", 5, &mut into),
+        Poured::Whole(5)
+    );
     assert_eq!(rt; into.bytes.as_slice(), b"12345".as_slice());
     assert_eq!(rt; into.lengths.as_slice(), [2, 2, 1].as_slice());
     Ok(())
@@ -72,7 +75,10 @@ fn pours_what_a_real_file_holds(rt: HostRuntime) -> Result<(), Fail> {
     assert!(rt; fs::write(&rt, "pour_test/a", bytes.as_slice()).is_ok());
     let mut fetch = FolderFetch::new(&rt, Text::copy_of(rt.alloc(), "pour_test")?);
     let mut into = no_pieces(rt.alloc());
-    assert_eq!(rt; fetch.fetch_to(rt.alloc(), "a", 70_000, &mut into), Poured::Whole(70_000));
+    assert_eq!(rt;
+        fetch.fetch_to(rt.alloc(), "a", 70_000, &mut into),
+        Poured::Whole(70_000)
+    );
     assert_eq!(rt; into.bytes.as_slice(), bytes.as_slice());
     assert!(rt; into.lengths.len() > 1);
     assert!(rt; fs::remove_dir_all(&rt, "pour_test").is_ok());

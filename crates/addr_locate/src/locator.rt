@@ -135,12 +135,7 @@ impl Locator {
     pub fn has_row(&self, key: Option<KeyNo>, kind: Kind) -> bool
         ensures { result ≡ list_any (is_match kind key) self.now.assets }
     {
-        has_match(
-            self.assets.as_slice(),
-            self.postings.as_slice(),
-            kind,
-            key,
-        )
+        has_match(self.assets.as_slice(), self.postings.as_slice(), kind, key)
     }
 
     /// The distinct bundles that the rows need, in order of first occurrence. A number that is no row's has none.
