@@ -14,8 +14,11 @@ pub fn leave_each(queue: &mut Queue, slots: &[Slot], needs: &[BundleNo])
     requires there { (b : _) → is_in b needs.now ≡ true → passes leaves slots.now b ≡ true
         → is_in b queue.old.bundles ≡ true }
     ensures { queue.new
-        ≡ record { room = queue.old.room; bundles = left_each
-        (passes leaves slots.now) needs.now queue.old.bundles } }
+        ≡ record {
+          room = queue.old.room;
+          bundles = left_each
+              (passes leaves slots.now) needs.now queue.old.bundles;
+        } }
 {
     for b in needs {
         leave(queue, leaves(slots, *b), *b);
@@ -24,8 +27,11 @@ pub fn leave_each(queue: &mut Queue, slots: &[Slot], needs: &[BundleNo])
 
 fn leave(queue: &mut Queue, leaves: bool, b: BundleNo)
     requires { leaves ≡ true → is_in b queue.old.bundles ≡ true }
-    ensures { queue.new ≡ record { room = queue.old.room; bundles = if leaves then filter
-        (λ c. not (c.0 == b.0)) queue.old.bundles else queue.old.bundles } }
+    ensures { queue.new ≡ record {
+      room = queue.old.room;
+      bundles = if leaves then filter
+          (λ c. not (c.0 == b.0)) queue.old.bundles else queue.old.bundles;
+    } }
 {
     if leaves {
         queue.remove(b);
@@ -39,8 +45,11 @@ pub fn join_each(queue: &mut Queue, slots: &[Slot], needs: &[BundleNo])
     requires new { (b : _) → is_in b needs.now ≡ true → passes is_out slots.now b ≡ true
         → is_in b queue.old.bundles ≡ false }
     ensures { queue.new
-        ≡ record { room = queue.old.room; bundles = joined_each
-        (passes is_out slots.now) needs.now queue.old.bundles } }
+        ≡ record {
+          room = queue.old.room;
+          bundles = joined_each
+              (passes is_out slots.now) needs.now queue.old.bundles;
+        } }
 {
     for b in needs {
         join(queue, is_out(slots, *b), *b);
