@@ -4,4 +4,5 @@ pub mod OutcomeLemmas
 pub mod ListingLemmas
 pub mod PlanningLemmas
 pub mod PlayLemmas
+pub mod ReadLemmas
 pub mod ServingLemmas

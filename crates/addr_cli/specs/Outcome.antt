@@ -32,7 +32,7 @@ use Rattle.addr_locate.specs.declared.error.RowsErr.TheVariants.{Line as RowsLin
 use Rattle.addr_script.specs.Scripts.{ReadsScript}
 use Rattle.addr_script.specs.declared.script.Script.{Script}
 use Rattle.addr_script.specs.declared.error.ScriptErr.TheVariants.{Line as ScriptLine}
-use Rattle.addr_cli.specs.SimText.{sim_text}
+use Rattle.addr_cli.specs.SimText.{SimText}
 use Rattle.addr_cli.specs.Refusals.{ended_status, ended_text}
 use Rattle.addr_cli.specs.Words.{Command, simulate, list_rows, inspect, plan, AsksFor, IsCommandLine, IsJsonName}
 use Rattle.addr_cli.specs.declared.refusal.Refusal.{Refusal}
@@ -71,7 +71,7 @@ limit_of script = unwrap_or script.limit 100000
 
 -- what `simulate` ends with over these files: the replies to the script over the rows, else the first fault, of the rows before the script
 abbrev pub Simulates : List MemFile → List ℕ → List ℕ → Result (List ℕ) Refusal → Type 0
-Simulates files rows script (Ok text) = (r : Rows) × (s : Script) × HasRows files rows r × HasScript files script s × (text ≡ sim_text r (limit_of s) [] s.commands)
+Simulates files rows script (Ok text) = (r : Rows) × (s : Script) × HasRows files rows r × HasScript files script s × SimText r (limit_of s) [] s.commands text
 Simulates files rows script (Err (NoFile token)) = ((file_at rows files ≡ None) × (token ≡ token_of rows)) ⊎ ((r : Rows) × HasRows files rows r × (file_at script files ≡ None) × (token ≡ token_of script))
 Simulates files rows script (Err (BadCatalogue n)) = IsJsonName rows × IsBadCatalogue files rows n
 Simulates files rows script (Err (BadRows n)) = (¬ IsJsonName rows) × IsBadPlain files rows n

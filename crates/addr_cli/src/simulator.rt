@@ -1,21 +1,22 @@
 // Plays a script on the machine, one command after the other, and writes each reply on a line of its own.
-ghost use Rattle.std.specs.Prelude.{◌≡◌, ◌<◌, ◌^◌, [], IfOk, IfSome, OnOk, length, map, slice_get, unwrap_or};
+ghost use Rattle.std.specs.Prelude.{◌≡◌, ◌<◌, ◌^◌, [], IfOk, IfSome, OnOk, Ok, length, map, slice_get, unwrap_or};
 ghost use Rattle.std.specs.List.{AllByRecursion};
 ghost use Rattle.std.specs.Option.{option_map};
-ghost use Rattle.addr_history.specs.Answers.{count_reply, load_adds, load_reply, status_reply};
+ghost use Rattle.addr_history.specs.Answers.{close_adds, close_reply, count_reply, fail_adds, fail_reply, load_adds, load_reply, release_adds, release_reply, status_reply};
 ghost use Rattle.addr_core.specs.Machine.{grown};
 ghost use Rattle.addr_locate.specs.Rows.{key_of};
 ghost use Rattle.addr_script.specs.Commands.{IsCommand};
 ghost use Rattle.addr_script.specs.Scripts.{IsLimit};
-ghost use Rattle.addr_script.specs.declared.command.Command.TheVariants.{Close, Done, Fail, Release};
+ghost use Rattle.addr_script.specs.declared.command.Command.TheVariants.{Done, Read};
 ghost use Rattle.addr_cli.specs.Outcome.{limit_of};
-ghost use Rattle.addr_cli.specs.SimText.{ask_of, asked_kind, count_answer, key_token, load_answer, sim_text, status_answer, Plays};
+ghost use Rattle.addr_cli.specs.SimText.{ask_of, asked_kind, close_answer, count_answer, fail_answer, key_token, load_answer, read_answer, release_answer, sim_objects, status_answer, Plays, SimText};
+ghost use Rattle.addr_cli.specs.Reading.{IsToldRead};
 
 use crate::sim_image::SimImage;
 use addr_base::{BundleNo, Cause, Items, KeyNo, NoMemory, OpId, Text, token};
-use addr_core::{Ask, Core, LoadErr};
+use addr_core::{Ask, Core, LoadErr, OpStatus, ReadErr};
 use addr_locate::{Kind, Locator, Merge};
-use addr_script::{Command, Reply, Script};
+use addr_script::{Command, Reply, Script, content};
 use std::alloc::Global;
 use std::fmt::Write;
 
@@ -26,7 +27,7 @@ const DEFAULT_LIMIT: u32 = 100_000;
 pub fn simulate(alloc: Global, locator: Locator, script: &Script) -> Result<Text, NoMemory>
     requires limit { IfSome script.now.limit IsLimit }
     requires commands { AllByRecursion IsCommand script.now.commands }
-    ensures { IfOk result (λ text. text ≡ sim_text locator (limit_of script.now) [] script.now.commands) }
+    ensures { IfOk result (SimText locator (limit_of script.now) [] script.now.commands) }
 {
     let mut core = Core::open(alloc, locator, limit_of(script))?;
     let mut text = String::new(alloc);
@@ -64,6 +65,7 @@ fn play(alloc: Global, core: &mut Core<SimImage>, command: &Command) -> Result<R
         }
         Command::Release { caller, op } => Ok(release(core, *caller, *op)),
         Command::Status(op) => Ok(status(core, *op)),
+        Command::Read { op, i } => read(alloc, core, *op, *i),
         Command::Count(b) => Ok(count(core, *b)),
         Command::Close => Ok(close(core)),
         Command::Take { worker } => Ok(Reply::Next(core.take(*worker))),
@@ -73,7 +75,8 @@ fn play(alloc: Global, core: &mut Core<SimImage>, command: &Command) -> Result<R
 }
 
 fn release(core: &mut Core<SimImage>, caller: u32, op: OpId) -> Reply
-    ensures { Plays core.old (Release caller op) result core.new }
+    ensures reply { result ≡ release_answer (release_reply core.old.history op) }
+    ensures machine { core.new ≡ grown core.old (release_adds core.old.history caller op) }
 {
     match core.release(caller, op) {
         Ok(()) => Reply::Released,
@@ -90,6 +93,29 @@ fn status(core: &Core<SimImage>, op: OpId) -> Reply
     }
 }
 
+/// The bytes of an asset. Each bundle that a ready operation needs has the image that a script hands in.
+fn read(alloc: Global, core: &Core<SimImage>, op: OpId, i: u32) -> Result<Reply, NoMemory>
+    ensures { IfOk result (IsToldRead core.now.rows core.now.history op i) }
+{
+    let _journal = core.journal();
+    match core.read(op, i) {
+        Ok(bytes) => shown(alloc, bytes.as_slice()),
+        Err(ReadErr::NoHandle) => Ok(Reply::NoHandle),
+        Err(ReadErr::NoAsset) => Ok(Reply::NoAsset),
+        Err(ReadErr::Pending) => Ok(Reply::Status(OpStatus::Pending)),
+        Err(ReadErr::Failed(b, cause)) => Ok(Reply::Status(OpStatus::Failed(b, cause))),
+        Err(ReadErr::Absent(b)) => Ok(Reply::AbsentFrom(b)),
+        Err(ReadErr::NoMemory) => Err(NoMemory),
+    }
+}
+
+fn shown(alloc: Global, bytes: &[u8]) -> Result<Reply, NoMemory>
+    ensures { IfOk result (λ reply. reply ≡ read_answer (Ok bytes.now)) }
+{
+    let shown = content(alloc, bytes)?;
+    Ok(Reply::Bytes(bytes.len() as u64, shown))
+}
+
 fn count(core: &Core<SimImage>, b: BundleNo) -> Reply
     ensures { result ≡ count_answer (count_reply core.now.rows core.now.history b) }
 {
@@ -100,7 +126,8 @@ fn count(core: &Core<SimImage>, b: BundleNo) -> Reply
 }
 
 fn close(core: &mut Core<SimImage>) -> Reply
-    ensures { Plays core.old Close result core.new }
+    ensures reply { result ≡ close_answer (close_reply core.old.history) }
+    ensures machine { core.new ≡ grown core.old (close_adds core.old.history) }
 {
     if core.close() {
         Reply::NowClosed
@@ -110,7 +137,8 @@ fn close(core: &mut Core<SimImage>) -> Reply
 }
 
 fn fail(core: &mut Core<SimImage>, worker: u32, b: BundleNo, cause: Cause) -> Reply
-    ensures { Plays core.old (Fail worker b cause) result core.new }
+    ensures reply { result ≡ fail_answer (fail_reply core.old.history worker b) }
+    ensures machine { core.new ≡ grown core.old (fail_adds core.old.history worker b cause) }
 {
     match core.fail(worker, b, cause) {
         Ok(()) => Reply::Noted,

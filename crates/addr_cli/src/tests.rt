@@ -119,6 +119,22 @@ fn plays_the_worked_rows(rt: HostRuntime) -> Result<(), Fail> {
 }
 
 #[test]
+fn plays_scripts_that_read(rt: HostRuntime) -> Result<(), Fail> {
+    for (script, replies) in worked::READINGS {
+        let files = both_files(rt.alloc(), worked::ROWS, script)?;
+        assert!(rt;
+            ends(rt.alloc(), WORDS, files, NO_FAULT, 0, replies)?,
+            "{script}"
+        );
+    }
+    let named = "load 0 one first %* a\ntake 1\ndone 1 0\nread 0 0\n";
+    let files = both_files(rt.alloc(), interleavings::ROWS, named)?;
+    let replies = "op 0\nbundle 0\nkept\nabsent 0\n";
+    assert!(rt; ends(rt.alloc(), WORDS, files, NO_FAULT, 0, replies)?);
+    Ok(())
+}
+
+#[test]
 fn plays_each_interleaving(rt: HostRuntime) -> Result<(), Fail> {
     for case in interleavings::SCRIPTS {
         assert!(rt; plays(rt.alloc(), interleavings::ROWS, case)?, "{case}");

@@ -25,8 +25,9 @@ use Rattle.addr_core.specs.declared.courses.Course.{Course}
 use Rattle.addr_core.specs.within.Kept.{Holds, IsSlot}
 use Rattle.addr_core.proofs.CourseSteps.{status_is, unreleased_is, not_unreleased}
 use Rattle.addr_core.proofs.Changing.{within_from, past_from}
+use Rattle.addr_core.specs.declared.wanted.Wanted.{Wanted}
 
-module _ (rows : Rows) (limit : ℕ) (h : List Event) (wanted : List (List BundleNo)) (slots : List Slot) (courses : List Course) (lists : List (List ℕ)) (order : Ordered) (fetched opens : ℕ) (closed : Bool) (holds : Holds rows h wanted slots courses lists order fetched opens closed) where
+module _ (rows : Rows) (limit : ℕ) (h : List Event) (wanted : List Wanted) (slots : List Slot) (courses : List Course) (lists : List (List ℕ)) (order : Ordered) (fetched opens : ℕ) (closed : Bool) (holds : Holds rows h wanted slots courses lists order fetched opens closed) where
   pub next_some : (b : BundleNo) → Some b ≡ slice_get order.bundles 0 → Bundle b ≡ take_reply rows h
   unfolding take_reply
   next_some b is = ap (λ (o : Option BundleNo). option_map_or Bundle o (if is_closed h then End else Idle)) (is ∙ ap (λ (l : Ordered). slice_get l.bundles 0) holds.in_order)

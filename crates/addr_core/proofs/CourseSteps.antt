@@ -29,7 +29,7 @@ use Rattle.addr_core.specs.declared.courses.Course.{Course}
 use Rattle.addr_core.specs.within.Kept.{failure_of, missing_of, lacks, AreCourses}
 use Rattle.addr_core.specs.within.Courses.{times_in, woken, failed_by, given_back}
 use Rattle.addr_core.proofs.Changing.{get_set_same, get_set_other, length_change, length_change_each, change_same, change_other, change_each_at, was_there, times_keep, get_left, get_end}
-use Rattle.addr_core.proofs.NeedsSteps.{no_load_of}
+use Rattle.addr_core.proofs.WantedSteps.{no_load_of}
 use Rattle.addr_history.proofs.StatusSteps.{op_needs_once, unreleased_before, failure_push, missing_push, waits_push, count_within, count_done, apart, needed_counted, needs_new, since_new}
 
 and_none : (t : Bool) → (t && false) ≡ false

@@ -52,7 +52,7 @@ empty_queue rows = refl
 
 pub holds_fresh : (rows : Rows) → Holds rows [] [] (replicate (length rows.bundles) no_slot) [] (replicate (length rows.bundles) []) (record { room = length rows.bundles; bundles = [] }) 0 0 false
 holds_fresh rows = record {
-  are_needs = record { many = sym none_loaded; each = λ op bs at now. (let none : None ≡ Some bs = at in cc) };
+  are_wanted = record { many = sym none_loaded; each = λ op bs at now. (let none : None ≡ Some bs = at in cc) };
   are_slots = record {
     many = length-replicate (length rows.bundles) no_slot;
     each = λ b s at. subst (IsSlot rows [] b) (same_one (length rows.bundles) b.0 no_slot s at) (first_slot rows b);

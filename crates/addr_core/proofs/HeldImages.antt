@@ -17,7 +17,7 @@ pub images_held : {I : Type 0} (fits : I → ℕ → Digest → Type 0) (rows : 
 unfolding HasImages
 images_held fits rows limit h images held = held
 
-held_place : {I : Type 0} (test : BundleNo → Bool) (n m : ℕ) (images : List (Option I)) (k : ℕ) (o : Option I) → map is_some images ≡ map test (numbers n m) → slice_get images k ≡ Some o → is_some o ≡ test (record { 0 = n + k })
+pub held_place : {I : Type 0} (test : BundleNo → Bool) (n m : ℕ) (images : List (Option I)) (k : ℕ) (o : Option I) → map is_some images ≡ map test (numbers n m) → slice_get images k ≡ Some o → is_some o ≡ test (record { 0 = n + k })
 held_place test n m [] k o held is = cc
 held_place test n zero (x ∷ images) k o held is = cc
 held_place test n (suc m) (x ∷ images) zero o held is =

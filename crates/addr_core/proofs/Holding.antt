@@ -30,10 +30,12 @@ use Rattle.addr_core.proofs.Changing.{length_change_each, length_cleared, cleare
 use Rattle.addr_history.proofs.QueueSteps.{filter_within, in_filter, in_queue, needs_once, queued_counted}
 use Rattle.addr_history.proofs.StatusSteps.{apart, needed_counted}
 use Rattle.addr_core.proofs.CourseSteps.{quiet_courses, same_release, done_courses, fail_courses, release_courses, forgotten_courses, load_courses, IsJoined}
-use Rattle.addr_core.proofs.NeedsSteps.{needs_calm, needs_load, needs_release}
+use Rattle.addr_core.proofs.WantedSteps.{wanted_calm, wanted_load, wanted_release}
 use Rattle.addr_core.proofs.SlotSteps.{slots_take, slots_done, slots_fail, slots_close, slots_load, slots_release, count_less, changed_once}
 use Rattle.addr_history.proofs.QueueEvents.{queue_load, queue_release, queue_take, queue_calm, fetching_same, fetching_taken, fetching_ended}
 use Rattle.addr_core.proofs.Leaving.{left_is, joined_is}
+use Rattle.addr_core.specs.within.Wanting.{nothing, wanted_of}
+use Rattle.addr_core.specs.declared.wanted.Wanted.{Wanted}
 
 -- changes that agree on what stands there
 pub change_agree : {X : Type 0} (f g : X → X) (n : ℕ) (xs : List X) → ((x : X) → slice_get xs n ≡ Some x → f x ≡ g x) → change f n xs ≡ change g n xs
@@ -43,7 +45,7 @@ change_agree {X} f g n xs same = at (slice_get xs n) refl
     at None is = refl
     at (Some x) is = ap (set xs n) (same x is)
 
-module _ (rows : Rows) (limit : ℕ) (h : List Event) (wanted : List (List BundleNo)) (slots : List Slot) (courses : List Course) (lists : List (List ℕ)) (order : Ordered) (fetched opens : ℕ) (closed : Bool) (holds : Holds rows h wanted slots courses lists order fetched opens closed) where
+module _ (rows : Rows) (limit : ℕ) (h : List Event) (wanted : List Wanted) (slots : List Slot) (courses : List Course) (lists : List (List ℕ)) (order : Ordered) (fetched opens : ℕ) (closed : Bool) (holds : Holds rows h wanted slots courses lists order fetched opens closed) where
   -- what a slot says of its bundle
   pub slot_is : (b : BundleNo) → b.0 < length rows.bundles → (s : Slot) × ((slice_get slots b.0 ≡ Some s) × IsSlot rows h b s)
   slot_is b lt = let there = slice_there slots b.0 (omega (arith, holds.are_slots.many)) in (there.0, (there.1, holds.are_slots.each b there.0 there.1))
@@ -74,7 +76,7 @@ module _ (rows : Rows) (limit : ℕ) (h : List Event) (wanted : List (List Bundl
       let before = prefix rows limit h (Take o w ∷ []) legal in
       let queued = take_facts rows limit h o w (legal.answers h (Take o w) [] refl) in
       record {
-        are_needs = needs_calm rows limit h (Take o w) refl wanted holds.are_needs;
+        are_wanted = wanted_calm rows limit h (Take o w) refl wanted holds.are_wanted;
         are_slots = slots_take rows limit h o w legal slots holds.are_slots;
         are_courses = quiet_courses rows limit h (Take o w) legal courses lists holds.are_courses refl courses refl (λ op c at. holds.are_courses.released op c at ∙ sym (same_release rows limit h (Take o w) op refl)) (λ op now. refl) (λ op. refl) (λ op b was asked. refl);
         all_lists = holds.all_lists;
@@ -114,7 +116,7 @@ module _ (rows : Rows) (limit : ℕ) (h : List Event) (wanted : List (List Bundl
       let before = prefix rows limit h (Done o w ∷ []) legal in
       let by = done_facts rows limit h o w (legal.answers h (Done o w) [] refl) in
       record {
-        are_needs = needs_calm rows limit h (Done o w) refl wanted holds.are_needs;
+        are_wanted = wanted_calm rows limit h (Done o w) refl wanted holds.are_wanted;
         are_slots = subst (AreSlots rows (h ++ Done o w ∷ [])) (ended_slots o w false (sym (ap (ltb 0) none))) (slots_done rows limit h o w legal slots holds.are_slots);
         are_courses = quiet_courses rows limit h (Done o w) legal courses lists holds.are_courses refl courses refl (λ op c at. holds.are_courses.released op c at ∙ sym (same_release rows limit h (Done o w) op refl)) (λ op now. refl) (λ op. refl)
             (λ op b was asked. ne_eqb o.0 b.0 (λ same. omega (arith, needed_counted rows limit h before op b was asked, ap (λ n. count_of rows h (let r : BundleNo = record { 0 = n } in r)) (sym same) ∙ none)));
@@ -130,7 +132,7 @@ module _ (rows : Rows) (limit : ℕ) (h : List Event) (wanted : List (List Bundl
       let before = prefix rows limit h (Done o w ∷ []) legal in
       let by = done_facts rows limit h o w (legal.answers h (Done o w) [] refl) in
       record {
-        are_needs = needs_calm rows limit h (Done o w) refl wanted holds.are_needs;
+        are_wanted = wanted_calm rows limit h (Done o w) refl wanted holds.are_wanted;
         are_slots = subst (AreSlots rows (h ++ Done o w ∷ [])) (ended_slots o w true (sym (lt-ltb 0 (count_of rows h o) some))) (slots_done rows limit h o w legal slots holds.are_slots);
         are_courses = done_courses rows limit h o w legal courses lists holds.are_courses ws there;
         all_lists = length-set lists o.0 [] ∙ holds.all_lists;
@@ -146,7 +148,7 @@ module _ (rows : Rows) (limit : ℕ) (h : List Event) (wanted : List (List Bundl
       let answer = legal.answers h (Fail o w k) [] refl in
       let by = fail_facts rows limit h o w k answer in
       record {
-        are_needs = needs_calm rows limit h (Fail o w k) refl wanted holds.are_needs;
+        are_wanted = wanted_calm rows limit h (Fail o w k) refl wanted holds.are_wanted;
         are_slots = slots_fail rows limit h o w k legal slots holds.are_slots;
         are_courses = fail_courses rows limit h o w k legal answer courses lists holds.are_courses ws there;
         all_lists = length-set lists o.0 [] ∙ holds.all_lists;
@@ -158,7 +160,7 @@ module _ (rows : Rows) (limit : ℕ) (h : List Event) (wanted : List (List Bundl
 
   pub holds_close : Legal rows limit (h ++ Close ∷ []) → Holds rows (h ++ Close ∷ []) wanted slots courses lists order fetched opens true
   holds_close legal = record {
-    are_needs = needs_calm rows limit h Close refl wanted holds.are_needs;
+    are_wanted = wanted_calm rows limit h Close refl wanted holds.are_wanted;
     are_slots = slots_close rows limit h legal slots holds.are_slots;
     are_courses = quiet_courses rows limit h Close legal courses lists holds.are_courses refl courses refl (λ op c at. holds.are_courses.released op c at ∙ sym (same_release rows limit h Close op refl)) (λ op now. refl) (λ op. refl) (λ op b was asked. refl);
     all_lists = holds.all_lists;
@@ -188,9 +190,9 @@ module _ (rows : Rows) (limit : ℕ) (h : List Event) (wanted : List (List Bundl
       at (Some s) there passed = sym (holds.are_slots.each b s there).queued ∙ not-true s.queued (and_parts (not s.resident && not (is_some s.fetcher)) (not s.queued) passed).1
 
   pub holds_release : Sound rows → (needs : List BundleNo) (o : OpId) (caller : ℕ) → Legal rows limit (h ++ Release o caller ∷ []) → needs ≡ needs_of_op rows h o → no_repeats needs ≡ true
-      → Holds rows (h ++ Release o caller ∷ []) (set wanted o.0 []) (change_each let_go (map (λ (b : BundleNo). b.0) needs) slots) (change given_back o.0 courses) (cleared_each [] (passes is_idle (change_each let_go (map (λ (b : BundleNo). b.0) needs) slots)) needs lists) (record { room = order.room; bundles = left_each (passes leaves slots) needs order.bundles }) fetched (opens - 1) closed
+      → Holds rows (h ++ Release o caller ∷ []) (set wanted o.0 nothing) (change_each let_go (map (λ (b : BundleNo). b.0) needs) slots) (change given_back o.0 courses) (cleared_each [] (passes is_idle (change_each let_go (map (λ (b : BundleNo). b.0) needs) slots)) needs lists) (record { room = order.room; bundles = left_each (passes leaves slots) needs order.bundles }) fetched (opens - 1) closed
   holds_release sound needs o caller legal known once = record {
-    are_needs = needs_release rows limit h o caller wanted holds.are_needs;
+    are_wanted = wanted_release rows limit h o caller wanted holds.are_wanted;
     are_slots = after;
     are_courses = forgotten_courses rows limit (h ++ Release o caller ∷ []) legal (change given_back o.0 courses) lists (cleared_each [] (passes is_idle slots2) needs lists) (release_courses rows limit h o caller legal courses lists holds.are_courses) forgets;
     all_lists = length_cleared [] (passes is_idle slots2) needs lists ∙ holds.all_lists;
@@ -271,9 +273,9 @@ module _ (rows : Rows) (limit : ℕ) (h : List Event) (wanted : List (List Bundl
       (before.0, (before.1.0, sym before.1.1 ∙ ap (λ t. let l : List ℕ = if t then before.0 ++ op ∷ [] else before.0 in l) (in_filter b test needs)))
 
   pub holds_load : Sound rows → length h ≤ 1000000 → (o : OpId) (caller : ℕ) (ask : Ask) → IsAnswer rows limit h (Load o caller ask) → Legal rows limit h → (missing : ℕ) → missing ≡ count_by (λ b. not (is_resident rows h b)) (needs_of rows ask)
-      → Holds rows (h ++ Load o caller ask ∷ []) (wanted ++ needs_of rows ask ∷ []) (change_each taken_in (map (λ (b : BundleNo). b.0) (needs_of rows ask)) slots) (courses ++ record { missing = missing; failed = None; released = false } ∷ []) (waited_each (passes is_missing slots) o.0 (needs_of rows ask) lists) (record { room = order.room; bundles = joined_each (passes is_out slots) (needs_of rows ask) order.bundles }) fetched (opens + 1) closed
+      → Holds rows (h ++ Load o caller ask ∷ []) (wanted ++ wanted_of rows ask ∷ []) (change_each taken_in (map (λ (b : BundleNo). b.0) (needs_of rows ask)) slots) (courses ++ record { missing = missing; failed = None; released = false } ∷ []) (waited_each (passes is_missing slots) o.0 (needs_of rows ask) lists) (record { room = order.room; bundles = joined_each (passes is_out slots) (needs_of rows ask) order.bundles }) fetched (opens + 1) closed
   holds_load sound short o caller ask answer legal missing is = record {
-    are_needs = needs_load rows limit h legal o caller ask answer wanted holds.are_needs;
+    are_wanted = wanted_load rows limit h legal o caller ask answer wanted holds.are_wanted;
     are_slots = slots_load rows limit h legal o caller ask answer short slots once holds.are_slots;
     are_courses =
         subst (λ n. AreCourses rows (h ++ Load o caller ask ∷ []) (courses ++ record { missing = n; failed = None; released = false } ∷ []) (waited_each (passes is_missing slots) o.0 (needs_of rows ask) lists)) (sym is)

@@ -10,9 +10,10 @@ pub mod Holding
 pub mod Keeping
 pub mod Leaving
 pub mod Machines
-pub mod NeedsSteps
 pub mod Nows
 pub mod Places
 pub mod Preparing
+pub mod ReadSteps
 pub mod SlotSteps
 pub mod WaitPlaces
+pub mod WantedSteps

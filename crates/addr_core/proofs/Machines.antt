@@ -30,8 +30,9 @@ use Rattle.addr_core.proofs.Holding.{holds_take, slot_is}
 use Rattle.addr_history.proofs.QueueEvents.{fetching_ended}
 use Rattle.addr_core.proofs.Changing.{past_from}
 use Rattle.addr_base.specs.declared.cause.Cause.{Cause}
+use Rattle.addr_core.specs.declared.wanted.Wanted.{Wanted}
 
-module _ (rows : Rows) (limit : ℕ) (h : List Event) (wanted : List (List BundleNo)) (slots : List Slot) (courses : List Course) (lists : List (List ℕ)) (order : Ordered) (fetched opens : ℕ) (closed : Bool) (holds : Holds rows h wanted slots courses lists order fetched opens closed) where
+module _ (rows : Rows) (limit : ℕ) (h : List Event) (wanted : List Wanted) (slots : List Slot) (courses : List Course) (lists : List (List ℕ)) (order : Ordered) (fetched opens : ℕ) (closed : Bool) (holds : Holds rows h wanted slots courses lists order fetched opens closed) where
   -- a bundle that is taken stands in the line
   pub first_there : (b : BundleNo) (w : ℕ) → IsAnswer rows limit h (Take b w) → is_among b order.bundles ≡ true
   first_there b w answer = ap (λ (l : Ordered). is_among b l.bundles) holds.in_order ∙ in_queue rows h b ∙ take_facts rows limit h b w answer
@@ -45,7 +46,7 @@ module _ (rows : Rows) (limit : ℕ) (h : List Event) (wanted : List (List Bundl
   unfolding reserved
   opens_fits known = omega (arith, holds.now_open, within_limit rows limit known.sound known.positive h known.legal, known.few)
 
-module _ {I : Type 0} (fits : I → ℕ → Digest → Type 0) (rows : Rows) (limit : ℕ) (ev : Vec Event Global) (nd : Vec (List BundleNo) Global) (im : Vec (Option I) Global) (sl : Vec Slot Global) (co : Vec Course Global) (wa : Vec Waiting Global) (order : Ordered) (fetched opens : ℕ) (closed : Bool) (kept : IsCore fits rows limit ev nd im sl co wa order fetched opens closed) where
+module _ {I : Type 0} (fits : I → ℕ → Digest → Type 0) (rows : Rows) (limit : ℕ) (ev : Vec Event Global) (nd : Vec Wanted Global) (im : Vec (Option I) Global) (sl : Vec Slot Global) (co : Vec Course Global) (wa : Vec Waiting Global) (order : Ordered) (fetched opens : ℕ) (closed : Bool) (kept : IsCore fits rows limit ev nd im sl co wa order fetched opens closed) where
   pub core_take : (b : BundleNo) (w : ℕ) → IsAnswer rows limit ev.items (Take b w) → (ev2 : Vec Event Global) → ev2.items ≡ ev.items ++ Take b w ∷ [] → vec_len ev2 ≡ vec_len ev + 1 → vec_capacity ev ≤ vec_capacity ev2 → (sl2 : Vec Slot Global) → sl2.items ≡ change (taken w) b.0 sl.items → (order2 : Ordered) → order2 ≡ record { room = order.room; bundles = filter (λ c. not (eqb c.0 b.0)) order.bundles } → IsCore fits rows limit ev2 nd im sl2 co wa order2 (fetched + 1) opens closed
   core_take b w answer ev2 items len cap sl2 is_slots order2 is_order =
       let legal = extend rows limit ev.items (Take b w) kept.journal.known.legal answer in
@@ -59,14 +60,14 @@ module _ {I : Type 0} (fits : I → ℕ → Digest → Type 0) (rows : Rows) (li
         rooms = kept.rooms;
       }
 
-pub make_core : {I : Type 0} (fits : I → ℕ → Digest → Type 0) (rows : Rows) (limit : ℕ) (ev : Vec Event Global) (nd : Vec (List BundleNo) Global) (im : Vec (Option I) Global) (sl : Vec Slot Global) (co : Vec Course Global) (wa : Vec Waiting Global) (order : Ordered) (fetched opens : ℕ) (closed : Bool)
-    → IsJournal fits rows limit ev im → (g : List Event) → ev.items ≡ g → (N : List (List BundleNo)) → nd.items ≡ N → (S : List Slot) → sl.items ≡ S → (C : List Course) → co.items ≡ C → (L : List (List ℕ)) → waiting_lists wa.items ≡ L → (l : Ordered) → order ≡ l → Holds rows g N S C L l fetched opens closed → HasRooms limit nd co
+pub make_core : {I : Type 0} (fits : I → ℕ → Digest → Type 0) (rows : Rows) (limit : ℕ) (ev : Vec Event Global) (nd : Vec Wanted Global) (im : Vec (Option I) Global) (sl : Vec Slot Global) (co : Vec Course Global) (wa : Vec Waiting Global) (order : Ordered) (fetched opens : ℕ) (closed : Bool)
+    → IsJournal fits rows limit ev im → (g : List Event) → ev.items ≡ g → (N : List Wanted) → nd.items ≡ N → (S : List Slot) → sl.items ≡ S → (C : List Course) → co.items ≡ C → (L : List (List ℕ)) → waiting_lists wa.items ≡ L → (l : Ordered) → order ≡ l → Holds rows g N S C L l fetched opens closed → HasRooms limit nd co
     → IsCore fits rows limit ev nd im sl co wa order fetched opens closed
 make_core fits rows limit ev nd im sl co wa order fetched opens closed journal g is_g N is_N S is_S C is_C L is_L l is_l holds rooms = record {
   journal = journal;
   holds =
       subst (λ (x : List Event). Holds rows x nd.items sl.items co.items (waiting_lists wa.items) order fetched opens closed) (sym is_g)
-      (subst (λ (x : List (List BundleNo)). Holds rows g x sl.items co.items (waiting_lists wa.items) order fetched opens closed) (sym is_N)
+      (subst (λ (x : List Wanted). Holds rows g x sl.items co.items (waiting_lists wa.items) order fetched opens closed) (sym is_N)
       (subst (λ (x : List Slot). Holds rows g N x co.items (waiting_lists wa.items) order fetched opens closed) (sym is_S)
       (subst (λ (x : List Course). Holds rows g N S x (waiting_lists wa.items) order fetched opens closed) (sym is_C)
       (subst (λ (x : List (List ℕ)). Holds rows g N S C x order fetched opens closed) (sym is_L)
@@ -82,7 +83,7 @@ pub fail_answer : (rows : Rows) (limit : ℕ) (h : List Event) (b : BundleNo) (w
 unfolding fail_adds
 fail_answer rows limit h b worker cause is = ap (λ t. if t then Fail b worker cause ∷ [] else []) is
 
-module _ (rows : Rows) (limit : ℕ) (h : List Event) (wanted : List (List BundleNo)) (slots : List Slot) (courses : List Course) (lists : List (List ℕ)) (order : Ordered) (fetched opens : ℕ) (closed : Bool) (holds : Holds rows h wanted slots courses lists order fetched opens closed) (sound : Sound rows) (legal : Legal rows limit h) where
+module _ (rows : Rows) (limit : ℕ) (h : List Event) (wanted : List Wanted) (slots : List Slot) (courses : List Course) (lists : List (List ℕ)) (order : Ordered) (fetched opens : ℕ) (closed : Bool) (holds : Holds rows h wanted slots courses lists order fetched opens closed) (sound : Sound rows) (legal : Legal rows limit h) where
   pub below_rows : (b : BundleNo) (w : ℕ) → is_fetched_by h b w ≡ true → b.0 < length rows.bundles
   below_rows b w by = fetched_below rows limit sound h legal b (fetched_by_some h b w by)
 

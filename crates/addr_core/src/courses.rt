@@ -1,13 +1,11 @@
-// How far each operation is: one course an operation, by its number, and the bundles that it needs.
-ghost use Rattle.std.specs.Prelude.{◌≡◌, ◌+◌, [], ◌==◌, slice_get, slice_set, if◌then◌else◌, Ok, Err, unwrap_or};
+// How far each operation is: one course an operation, by its number.
+ghost use Rattle.std.specs.Prelude.{◌≡◌, ◌+◌, ◌==◌, slice_get, if◌then◌else◌, Ok, Err, unwrap_or};
 ghost use Rattle.addr_history.specs.declared.answers.OpStatus.TheVariants.{Ready, Pending};
 ghost use Rattle.addr_core.specs.within.Changes.{change, change_each};
-ghost use Rattle.addr_core.specs.within.Courses.{needs_at, woken, failed_by, given_back};
+ghost use Rattle.addr_core.specs.within.Courses.{woken, failed_by, given_back};
 
-use addr_base::{BundleNo, Items, OpId};
+use addr_base::OpId;
 use addr_history::{NoHandle, OpStatus};
-use std::alloc::Global;
-use std::mem;
 
 /// How many of an operation's bundles aren't resident, its first failure, and whether it was released.
 #[derive(Clone, Copy)]
@@ -127,19 +125,5 @@ pub fn fail_each(courses: &mut [Course], ops: &[u32], status: OpStatus)
 {
     for op in ops {
         fail(courses, *op, status);
-    }
-}
-
-/// The bundles of an operation, which are no longer kept for it; none where it wasn't opened.
-pub fn take_needs(alloc: Global, needs: &mut [Items<BundleNo>], op: OpId) -> Items<BundleNo>
-    ensures taken { result ≡ needs_at needs.old op }
-    ensures left { needs.new ≡ slice_set needs.old op.0 [] }
-{
-    let place = op.0 as usize;
-    let none = Items::new(alloc);
-    if place < needs.len() {
-        mem::replace(&mut needs[place], none)
-    } else {
-        none
     }
 }

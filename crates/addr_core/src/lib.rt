@@ -13,13 +13,15 @@ mod machine;
 mod now;
 mod prepare;
 mod queueing;
+mod reading;
 mod slots;
 mod start;
 #[cfg(test)]
 mod tests;
 mod waiters;
+mod wanted;
 
 pub use addr_history::{
-    Ask, BundleState, Event, LoadErr, Next, NoHandle, NotTaken, OpStatus, Settled,
+    Ask, BundleState, Event, LoadErr, Next, NoHandle, NotTaken, OpStatus, ReadErr, Settled,
 };
 pub use machine::Core;

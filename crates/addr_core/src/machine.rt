@@ -5,24 +5,29 @@ ghost use Rattle.addr_locate.specs.Rows.{are_bundles, no_repeats};
 ghost use Rattle.addr_history.specs.Answers.{load_reply, release_reply, release_adds, status_reply, take_reply, take_adds, done_reply, done_adds, fail_reply, fail_adds, close_reply, close_adds, count_reply};
 ghost use Rattle.addr_history.specs.declared.event.Event.TheVariants.{Load, Release, Take, Done, Fail, Close};
 ghost use Rattle.addr_history.specs.declared.answers.Settled.TheVariants.{Kept};
-ghost use Rattle.addr_history.specs.Events.{needs_of};
+ghost use Rattle.addr_core.specs.within.Wanting.{wanted_of};
 ghost use Rattle.addr_history.specs.Legal.{Legal, IsAnswer};
 ghost use Rattle.addr_history.specs.Places.{is_fetched_by, queue};
 ghost use Rattle.addr_history.specs.Counts.{count_of, is_closed, is_unreleased, loads_of};
-ghost use Rattle.addr_core.specs.Machine.{Machine, fresh, grown, with_kept, Loads, HasImages, IdleHaveNone, ImagesFit};
+ghost use Rattle.addr_history.specs.Reading.{row_reply};
+ghost use Rattle.addr_core.specs.Machine.{Machine, fresh, grown, with_kept, Loads, AnswersRead, HasImages, IdleHaveNone, ImagesFit, ReadyHave};
 
-use crate::courses::{Course, course_at, fail_each, give_back, take_needs, wake_each};
+use crate::courses::{Course, course_at, fail_each, give_back, wake_each};
 use crate::images::{clear_each, put};
 use crate::now::Now;
 use crate::prepare::prepare;
 use crate::queueing::{join_each, leave_each};
+use crate::reading::{read_asset, ready_row};
 use crate::slots::{
     Slot, end_slot, is_counted, is_taken_by, lacking, let_go_each, slot_at, take_in_each, take_slot,
 };
 use crate::start::{no_images, no_slots, no_waiters, push_within};
 use crate::waiters::{Waiters, clear_waiters, forget_each, make_room_each, wait_each, waiting};
-use addr_base::{BundleNo, Cause, Image, Items, NoMemory, OpId};
-use addr_history::{Ask, BundleState, Event, LoadErr, Next, NoHandle, NotTaken, OpStatus, Settled};
+use crate::wanted::{Wanted, row_of, take_wanted};
+use addr_base::{BundleNo, Cause, Image, Items, NoMemory, OpId, RowNo};
+use addr_history::{
+    Ask, BundleState, Event, LoadErr, Next, NoHandle, NotTaken, OpStatus, ReadErr, Settled,
+};
 use addr_locate::Locator;
 use addr_queue::Queue;
 use std::alloc::Global;
@@ -34,8 +39,8 @@ pub struct Core<I: Image + Drop> {
     locator: Locator,
     limit: u32,
     events: Vec<Event>,
-    // by operation: the bundles that it needs, none once it is released; and how far it is
-    needs: Vec<Items<BundleNo>>,
+    // by operation: the rows that it found and the bundles that they need, none once it is released; and how far it is
+    wanted: Vec<Wanted>,
     courses: Vec<Course>,
     // by bundle: its image, where it stands, and the operations that wait for it
     images: Vec<Option<I>>,
@@ -57,7 +62,7 @@ impl<I: Image + Drop> Model for Core<I> {
 
     ghost view = { λ c. record { rows = c.locator; limit = c.limit; history = c.events.items; images = c.images.items } };
 
-    ghost invariant = { λ c. IsCore I.fits c.locator c.limit c.events c.needs c.images c.slots c.courses c.waits c.queue c.fetched c.opened c.closed };
+    ghost invariant = { λ c. IsCore I.fits c.locator c.limit c.events c.wanted c.images c.slots c.courses c.waits c.queue c.fetched c.opened c.closed };
 }
 
 impl<I: Image + Drop> Core<I> {
@@ -70,7 +75,7 @@ impl<I: Image + Drop> Core<I> {
         let _assets = locator.assets();
         let count = locator.bundles().len();
         let events = Vec::with_capacity(alloc, limit as usize)?;
-        let needs = Vec::with_capacity(alloc, limit as usize)?;
+        let wanted = Vec::with_capacity(alloc, limit as usize)?;
         let courses = Vec::with_capacity(alloc, limit as usize)?;
         let images = no_images(alloc, count)?;
         let slots = no_slots(alloc, count)?;
@@ -80,7 +85,7 @@ impl<I: Image + Drop> Core<I> {
             locator,
             limit,
             events,
-            needs,
+            wanted,
             images,
             slots,
             courses,
@@ -99,36 +104,33 @@ impl<I: Image + Drop> Core<I> {
         requires { length ask.keys < 2 ^ 32 }
         ensures { Loads self.old caller ask result self.new }
     {
-        let needs = prepare(self.alloc, &self.now(), &ask)?;
-        match self.accept(caller, ask, needs) {
+        let wanted = prepare(self.alloc, &self.now(), &ask)?;
+        match self.accept(caller, ask, wanted) {
             Ok(op) => Ok(op),
             Err(_) => Err(LoadErr::NoMemory),
         }
     }
 
-    fn accept(&mut self, caller: u32, ask: Ask, needs: Items<BundleNo>) -> Result<OpId, NoMemory>
-        requires needs { needs ≡ needs_of self.old.rows ask }
+    fn accept(&mut self, caller: u32, ask: Ask, wanted: Wanted) -> Result<OpId, NoMemory>
+        requires wanted { wanted ≡ wanted_of self.old.rows ask }
         requires accepted { load_reply self.old.rows self.old.limit self.old.history ask ≡ Ok
             (record { 0 = loads_of self.old.history }) }
         ensures number { IfOk result (λ op. op ≡ record { 0 = loads_of self.old.history }) }
         ensures machine { IfOk result (λ op. self.new ≡ grown self.old (Load op caller ask ∷ [])) }
         ensures err { OnErr result (self.new ≡ self.old) }
     {
-        make_room_each(
-            self.waits.as_mut_slice(),
-            self.slots.as_slice(),
-            needs.as_slice(),
-        )?;
-        let op = OpId(self.needs.len() as u32);
-        let missing = lacking(self.slots.as_slice(), needs.as_slice());
-        join_each(&mut self.queue, self.slots.as_slice(), needs.as_slice());
+        let needs = wanted.needs.as_slice();
+        make_room_each(self.waits.as_mut_slice(), self.slots.as_slice(), needs)?;
+        let op = OpId(self.wanted.len() as u32);
+        let missing = lacking(self.slots.as_slice(), needs);
+        join_each(&mut self.queue, self.slots.as_slice(), needs);
         wait_each(
             self.waits.as_mut_slice(),
             self.slots.as_slice(),
-            needs.as_slice(),
+            needs,
             op.0,
         );
-        take_in_each(self.slots.as_mut_slice(), needs.as_slice());
+        take_in_each(self.slots.as_mut_slice(), needs);
         push_within(
             &mut self.courses,
             Course {
@@ -138,7 +140,7 @@ impl<I: Image + Drop> Core<I> {
             },
         );
         push_within(&mut self.events, Event::Load { op, caller, ask });
-        push_within(&mut self.needs, needs);
+        push_within(&mut self.wanted, wanted);
         self.opened += 1;
         Ok(op)
     }
@@ -198,8 +200,8 @@ impl<I: Image + Drop> Core<I> {
         ensures { self.new ≡ grown self.old (Release op caller ∷ []) }
     {
         push_within(&mut self.events, Event::Release { op, caller });
-        let needs = take_needs(self.alloc, self.needs.as_mut_slice(), op);
-        let bundles = needs.as_slice();
+        let wanted = take_wanted(self.alloc, self.wanted.as_mut_slice(), op);
+        let bundles = wanted.needs.as_slice();
         leave_each(&mut self.queue, self.slots.as_slice(), bundles);
         let_go_each(self.slots.as_mut_slice(), bundles);
         clear_each(self.images.as_mut_slice(), self.slots.as_slice(), bundles);
@@ -371,12 +373,39 @@ impl<I: Image + Drop> Core<I> {
         }
     }
 
+    /// The bytes of the asset that an operation's i-th row is, in the image of the row's first dependency. A few steps, and a
+    /// copy of the bytes, which alone takes memory.
+    pub fn read(&self, op: OpId, i: u32) -> Result<Items<u8>, ReadErr>
+        ensures { AnswersRead I.object_of self.now op i result }
+    {
+        match self.row(op, i) {
+            Ok(row) => self.read_row(op, i, row),
+            Err(refusal) => Err(refusal),
+        }
+    }
+
+    /// An operation's i-th row, where it may be read; else the first refusal that looks at no image.
+    fn row(&self, op: OpId, i: u32) -> Result<RowNo, ReadErr>
+        ensures { result ≡ row_reply self.now.rows self.now.history op i }
+    {
+        ready_row(self.status(op), row_of(self.wanted.as_slice(), op, i))
+    }
+
+    fn read_row(&self, op: OpId, i: u32, row: RowNo) -> Result<Items<u8>, ReadErr>
+        requires { row_reply self.now.rows self.now.history op i ≡ Ok row }
+        ensures { AnswersRead I.object_of self.now op i result }
+    {
+        let asset = &self.locator.assets()[row.0 as usize];
+        read_asset(self.alloc, self.images.as_slice(), asset)
+    }
+
     /// The events so far.
     pub fn journal(&self) -> &[Event]
         ensures history { result.now ≡ self.now.history }
         ensures legal { Legal self.now.rows self.now.limit self.now.history }
         ensures held { HasImages self.now }
         ensures idle { IdleHaveNone self.now }
+        ensures ready { ReadyHave self.now }
         ensures fitting { ImagesFit I.fits self.now }
     {
         self.events.as_slice()

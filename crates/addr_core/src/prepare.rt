@@ -1,4 +1,4 @@
-// All of a load that may fail, and takes memory: which refusal comes first, and which bundles are needed.
+// All of a load that may fail, and takes memory: which refusal comes first, and what is wanted.
 ghost use Rattle.std.specs.Prelude.{◌≡◌, ◌+◌, ◌<◌, ◌^◌, not, nat_lt, length, take, if◌then◌else◌, IfOk, IfSome};
 ghost use Rattle.std.specs.List.{list_any, position};
 ghost use Rattle.std.specs.Prelude.{true};
@@ -9,6 +9,7 @@ ghost use Rattle.addr_history.specs.Answers.{first_missing};
 ghost use Rattle.addr_core.specs.within.Prepare.{Prepares};
 
 use crate::now::Now;
+use crate::wanted::Wanted;
 use addr_base::{BundleNo, Items, KeyNo, NoMemory, RowNo};
 use addr_history::{Ask, LoadErr};
 use addr_locate::{Kind, Locator};
@@ -60,8 +61,8 @@ fn needs_of(
     Ok(needs)
 }
 
-/// The first refusal, or the bundles that the load needs.
-pub fn prepare(alloc: Global, now: &Now, ask: &Ask) -> Result<Items<BundleNo>, LoadErr>
+/// The first refusal, or what the load wants.
+pub fn prepare(alloc: Global, now: &Now, ask: &Ask) -> Result<Wanted, LoadErr>
     requires { length ask.now.keys < 2 ^ 32 }
     ensures { Prepares now.now.locator.now now.now.limit now.now.events.now ask.now result }
 {
@@ -87,7 +88,16 @@ pub fn prepare(alloc: Global, now: &Now, ask: &Ask) -> Result<Items<BundleNo>, L
             needed,
         });
     }
-    Ok(needs)
+    let rows = rows_of(alloc, ask, found.as_slice())?;
+    Ok(Wanted { rows, needs })
+}
+
+/// The rows that an ask wants of those that it finds, in a list no longer than they are.
+fn rows_of(alloc: Global, ask: &Ask, found: &[RowNo]) -> Result<Items<RowNo>, NoMemory>
+    ensures { IfOk result (λ rows. rows ≡ (if ask.now.all then found.now else take 1 found.now)) }
+{
+    let rows = Items::copy_of(alloc, chosen(found, ask.all))?;
+    Ok(rows)
 }
 
 fn used(now: &Now) -> u32

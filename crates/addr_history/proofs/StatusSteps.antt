@@ -11,8 +11,8 @@ use Rattle.addr_history.specs.declared.ask.Ask.{Ask}
 use Rattle.addr_history.specs.declared.answers.OpStatus.TheVariants.{Failed}
 use Rattle.addr_history.specs.declared.event.Event.{Event}
 use Rattle.addr_history.specs.declared.event.Event.TheVariants.{Load, Release, Take, Done, Fail, Close}
-use Rattle.addr_history.specs.Events.{is_in, is_load_of, is_release_of, is_take_of, is_done_of, is_end_of, needs_of, needs_of_event}
-use Rattle.addr_history.specs.Counts.{has_release, is_unreleased, count_of, needs_of_op}
+use Rattle.addr_history.specs.Events.{is_in, is_load_of, is_release_of, is_take_of, is_done_of, is_end_of, needs_of, needs_of_event, rows_of_ask, rows_of_event}
+use Rattle.addr_history.specs.Counts.{has_release, is_unreleased, count_of, needs_of_op, rows_of_op}
 use Rattle.addr_history.specs.Places.{is_resident, is_fetched, is_fetched_by, is_queued}
 use Rattle.addr_history.specs.Status.{since_load, first_failure}
 use Rattle.addr_history.specs.Legal.{IsAnswer, Legal}
@@ -101,6 +101,19 @@ module _ (rows : Rows) (limit : ℕ) where
   unfolding needs_of_op
   needs_new h op caller ask none =
       ap (λ (o : Option Event). option_map_or (needs_of_event rows) o [])
+      (find-append (is_load_of op) h (Load op caller ask ∷ []) ∙ ap (λ (o : Option Event). option_or o (find (is_load_of op) (Load op caller ask ∷ []))) (find_none (is_load_of op) h none) ∙ ap (λ t. cond t (Some (Load op caller ask)) None) (eq-eqb op.0 op.0 refl))
+
+  -- the rows of an operation stay, and a new one's are those that its ask finds
+  pub found_kept : (h : List Event) (e : Event) (op : OpId) → list_any (is_load_of op) h ≡ true → rows_of_op rows (h ++ e ∷ []) op ≡ rows_of_op rows h op
+  unfolding rows_of_op
+  found_kept h e op has =
+      let found = find_some (is_load_of op) h has in
+      ap (λ (o : Option Event). option_map_or (rows_of_event rows) o []) (find-append (is_load_of op) h (e ∷ []) ∙ ap (λ (o : Option Event). option_or o (find (is_load_of op) (e ∷ []))) found.1.0 ∙ sym found.1.0)
+
+  pub found_new : (h : List Event) (op : OpId) (caller : ℕ) (ask : Ask) → list_any (is_load_of op) h ≡ false → rows_of_op rows (h ++ Load op caller ask ∷ []) op ≡ rows_of_ask rows ask
+  unfolding rows_of_op
+  found_new h op caller ask none =
+      ap (λ (o : Option Event). option_map_or (rows_of_event rows) o [])
       (find-append (is_load_of op) h (Load op caller ask ∷ []) ∙ ap (λ (o : Option Event). option_or o (find (is_load_of op) (Load op caller ask ∷ []))) (find_none (is_load_of op) h none) ∙ ap (λ t. cond t (Some (Load op caller ask)) None) (eq-eqb op.0 op.0 refl))
 
   pub op_needs_once : (h : List Event) (op : OpId) → no_repeats (needs_of_op rows h op) ≡ true

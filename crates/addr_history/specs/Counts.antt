@@ -4,10 +4,11 @@ use Rattle.std.specs.Option.{option_map_or}
 use Rattle.std.specs.List.{list_any, count_by, find}
 use Rattle.addr_base.specs.declared.ids.BundleNo.{BundleNo}
 use Rattle.addr_base.specs.declared.ids.OpId.{OpId}
+use Rattle.addr_base.specs.declared.ids.RowNo.{RowNo}
 use Rattle.addr_locate.specs.Rows.{Rows}
 use Rattle.addr_history.specs.declared.event.Event.{Event}
 use Rattle.addr_history.specs.declared.event.Event.TheVariants.{Load}
-use Rattle.addr_history.specs.Events.{is_in, is_load, is_load_of, is_release_of, is_close, needs_of_event}
+use Rattle.addr_history.specs.Events.{is_in, is_load, is_load_of, is_release_of, is_close, needs_of_event, rows_of_event}
 
 -- whether the history has the Close
 unfoldable pub is_closed : List Event → Bool
@@ -40,3 +41,7 @@ count_of rows h b = count_by (λ e. is_open_load h e && is_in b (needs_of_event 
 -- the bundles that an operation needs: those of its Load
 unfoldable pub needs_of_op : Rows → List Event → OpId → List BundleNo
 needs_of_op rows h op = option_map_or (needs_of_event rows) (find (is_load_of op) h) []
+
+-- the rows of an operation: those of its Load
+unfoldable pub rows_of_op : Rows → List Event → OpId → List RowNo
+rows_of_op rows h op = option_map_or (rows_of_event rows) (find (is_load_of op) h) []

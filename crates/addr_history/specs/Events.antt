@@ -27,6 +27,15 @@ abbrev pub needs_of_event : Rows → Event → List BundleNo
 needs_of_event rows (Load op caller ask) = needs_of rows ask
 needs_of_event rows _ = []
 
+-- the rows that an event finds: those of a Load; another event finds none
+abbrev pub rows_of_event : Rows → Event → List RowNo
+rows_of_event rows (Load op caller ask) = rows_of_ask rows ask
+rows_of_event rows (Release op caller) = []
+rows_of_event rows (Take b worker) = []
+rows_of_event rows (Done b worker) = []
+rows_of_event rows (Fail b worker cause) = []
+rows_of_event rows Close = []
+
 -- whether the event is a Load, or the one of an operation; its Release; the Close
 abbrev pub is_load : Event → Bool
 is_load (Load op caller ask) = true

@@ -12,9 +12,11 @@ mod ask;
 mod error;
 mod event;
 mod laws;
+mod reading;
 
 pub use answers::{BundleState, Next, NoHandle, NotTaken, OpStatus, Settled};
 pub use ask::Ask;
 pub use error::LoadErr;
 pub use event::Event;
 pub use laws::{legal_histories, worked_examples};
+pub use reading::{Item2, ReadErr};

@@ -1,3 +1,4 @@
 pub mod KeyLemmas
 pub mod ScriptLaws
 pub mod ScriptLemmas
+pub mod WordLemmas

@@ -1,5 +1,5 @@
 -- Laws of scripts: lines are at most one script, what begins a script is one, and lines have one first bad line or none.
-use Rattle.std.proofs.Common.{ℕ, ◌≡◌, ◌==◌, ◌<◌, ◌≤◌, ◌+◌, ◌-◌, ◌∙◌, ◌^◌, inl, inr, zero, suc, true, false, List, [], ◌∷◌, ◌++◌, map, take, length, refl, ap, sym, subst, arith, codes, decimal, Option, Some, None, IfSome}
+use Rattle.std.proofs.Common.{ℕ, ◌≡◌, ◌==◌, ◌<◌, ◌≤◌, ◌+◌, ◌-◌, ◌∙◌, ◌^◌, inl, inr, zero, suc, Bool, true, false, List, [], ◌∷◌, ◌++◌, map, take, length, refl, ap, sym, subst, arith, codes, decimal, Option, Some, None, IfSome}
 use Rattle.std.specs.List.{AllByRecursion, take-map}
 use Rattle.std.proofs.lemmas.Bool.{false≢true, cases_lt}
 use Rattle.std.proofs.lemmas.Bool.Decides.{nat_tests}
@@ -14,15 +14,18 @@ use Rattle.addr_base.specs.declared.ids.BundleNo.{BundleNo}
 use Rattle.addr_base.specs.declared.ids.OpId.{OpId}
 use Rattle.addr_fields.proofs.CutLemmas.{same_cut}
 use Rattle.addr_fields.proofs.NumberLemmas.{decimal_is_free}
-use Rattle.addr_locate.proofs.FieldLemmas.{token_free_of_comma}
+use Rattle.addr_locate.proofs.FieldLemmas.{token_free_of_comma, token_free_of_space}
 use Rattle.addr_locate.proofs.ListFieldLemmas.{same_list}
-use Rattle.addr_locate.specs.declared.rows.Merge.TheVariants.{UseFirst}
-use Rattle.addr_script.proofs.ScriptLemmas.{no_limit_first}
+use Rattle.addr_locate.specs.declared.rows.Merge.{Merge}
+use Rattle.addr_locate.specs.declared.rows.Merge.TheVariants.{UseFirst, Union, Intersection}
+use Rattle.addr_script.proofs.ScriptLemmas.{no_limit_first, no_set_line}
+use Rattle.addr_script.proofs.WordLemmas.{all_free, kind_free, mode_free, no_mark_token}
 use Rattle.addr_script.specs.Causes.{cause_text, IsGivenCause}
-use Rattle.addr_script.specs.Commands.{spell, IsCommand, AreTexts, asked_keys_field}
-use Rattle.addr_script.specs.Scripts.{IsScript, IsFirstBad, IsLimit, limit_lines}
+use Rattle.addr_base.specs.declared.var.Var.{Var}
+use Rattle.addr_script.specs.Commands.{asked_keys_field, kind_field, mode_word, one_or_all, set_line, spell, AreTexts, IsCommand, IsKind, IsSet}
+use Rattle.addr_script.specs.Scripts.{body_lines, IsScript, IsFirstBad, IsLimit, limit_lines}
 use Rattle.addr_script.specs.declared.command.Command.{Command}
-use Rattle.addr_script.specs.declared.command.Command.TheVariants.{Load, Release, Status, Count, Close, Take, Done, Fail}
+use Rattle.addr_script.specs.declared.command.Command.TheVariants.{Load, Release, Status, Read, Count, Close, Take, Done, Fail}
 use Rattle.addr_script.specs.declared.script.Script.{Script}
 
 -- What begins a script
@@ -32,16 +35,23 @@ each_take P zero xs each = tt
 each_take P (suc n) [] each = tt
 each_take P (suc n) (x ∷ xs) each = (each.0, each_take P n xs each.1)
 
-prefix : (lines : List (List ℕ)) (limit : Option ℕ) (commands : List Command) (n : ℕ) → lines ≡ limit_lines limit ++ map spell commands → IfSome limit IsLimit → AllByRecursion IsCommand commands → length lines ≤ 100000 → (script : Script) × IsScript (take n lines) script
-prefix lines None commands n whole small each few =
-    (record { limit = None; commands = take n commands }, record { spelled = ap (take n) whole ∙ take-map spell n commands; limit = tt; commands = each_take IsCommand n commands each; few = omega (arith, length-take n lines) })
-prefix lines (Some limit) commands zero whole small each few =
-    (record { limit = None; commands = [] }, record { spelled = refl; limit = tt; commands = tt; few = omega arith })
-prefix lines (Some limit) commands (suc n) whole small each few =
-    (record { limit = Some limit; commands = take n commands }, record { spelled = ap (take (suc n)) whole ∙ ap (λ more. limit_lines (Some limit) ++ more) (take-map spell n commands); limit = small; commands = each_take IsCommand n commands each; few = omega (arith, length-take (suc n) lines) })
+body_take : (n : ℕ) (vars : List Var) (commands : List Command) → AllByRecursion IsSet vars → AllByRecursion IsCommand commands → (vs : List Var) × (cs : List Command) × (take n (body_lines vars commands) ≡ body_lines vs cs) × AllByRecursion IsSet vs × AllByRecursion IsCommand cs
+body_take zero vars commands sets each = ([], [], refl, tt, tt)
+body_take (suc n) [] commands sets each = ([], take (suc n) commands, take-map spell (suc n) commands, tt, each_take IsCommand (suc n) commands each)
+body_take (suc n) (v ∷ vars) commands sets each = let rest = body_take n vars commands sets.1 each in (v ∷ rest.0, rest.1, ap (λ ls. set_line v ∷ ls) rest.2, (sets.0, rest.3), rest.4)
+
+prefix : (lines : List (List ℕ)) (limit : Option ℕ) (vars : List Var) (commands : List Command) (n : ℕ) → lines ≡ limit_lines limit ++ body_lines vars commands → IfSome limit IsLimit → AllByRecursion IsSet vars → AllByRecursion IsCommand commands → length lines ≤ 100000 → (script : Script) × IsScript (take n lines) script
+prefix lines None vars commands n whole small sets each few =
+    let body = body_take n vars commands sets each in
+    (record { limit = None; vars = body.0; commands = body.1 }, record { spelled = ap (take n) whole ∙ body.2; limit = tt; vars = body.3; commands = body.4; few = omega (arith, length-take n lines) })
+prefix lines (Some limit) vars commands zero whole small sets each few =
+    (record { limit = None; vars = []; commands = [] }, record { spelled = refl; limit = tt; vars = tt; commands = tt; few = omega arith })
+prefix lines (Some limit) vars commands (suc n) whole small sets each few =
+    let body = body_take n vars commands sets each in
+    (record { limit = Some limit; vars = body.0; commands = body.1 }, record { spelled = ap (take (suc n)) whole ∙ ap (λ more. limit_lines (Some limit) ++ more) body.2; limit = small; vars = body.3; commands = body.4; few = omega (arith, length-take (suc n) lines) })
 
 script_prefix : (lines : List (List ℕ)) (script : Script) (n : ℕ) → IsScript lines script → (front : Script) × IsScript (take n lines) front
-script_prefix lines script n is = prefix lines script.limit script.commands n is.spelled is.limit is.commands is.few
+script_prefix lines script n is = prefix lines script.limit script.vars script.commands n is.spelled is.limit is.vars is.commands is.few
 
 -- The first bad line
 
@@ -136,84 +146,143 @@ cause_own (BadDigest want got) b is other e = absurd is
 cause_own (BadImage layer number) b is other e = absurd is
 cause_own NoMemory b is other e = absurd is
 
-load_own : (caller caller_2 : ℕ) (keys keys_2 : List (List ℕ)) → caller < 2 ^ 32 → caller_2 < 2 ^ 32 → AreTexts keys → AreTexts keys_2 → spell (Load caller false UseFirst None keys) ≡ spell (Load caller_2 false UseFirst None keys_2) → (caller ≡ caller_2) × (keys ≡ keys_2)
-load_own caller caller_2 keys keys_2 small small_2 are are_2 e =
-    let field = codes "one first %* " ++ asked_keys_field keys in
-    let field_2 = codes "one first %* " ++ asked_keys_field keys_2 in
-    let parts = number_then_own caller caller_2 field field_2 small small_2 (append_cancel_left (codes "load ") (decimal caller ++ 32 ∷ field) (decimal caller_2 ++ 32 ∷ field_2) e) in
-    (parts.0, keys_own keys keys_2 are are_2 (append_cancel_left (codes "one first %* ") (asked_keys_field keys) (asked_keys_field keys_2) parts.1))
+-- which rows a load asks for, how its keys are joined, and of which type
+all_own : (a b : Bool) → one_or_all a ≡ one_or_all b → a ≡ b
+all_own false false e = refl
+all_own true true e = refl
+all_own false true e = absurd (apart 221 205 refl (ap first_two e))
+all_own true false e = absurd (apart 205 221 refl (ap first_two e))
+
+mode_own : (a b : Merge) → mode_word a ≡ mode_word b → a ≡ b
+mode_own UseFirst UseFirst e = refl
+mode_own Union Union e = refl
+mode_own Intersection Intersection e = refl
+mode_own UseFirst Union e = absurd (apart 207 227 refl (ap first_two e))
+mode_own UseFirst Intersection e = absurd (apart 207 215 refl (ap first_two e))
+mode_own Union UseFirst e = absurd (apart 227 207 refl (ap first_two e))
+mode_own Union Intersection e = absurd (apart 227 215 refl (ap first_two e))
+mode_own Intersection UseFirst e = absurd (apart 215 207 refl (ap first_two e))
+mode_own Intersection Union e = absurd (apart 215 227 refl (ap first_two e))
+
+kind_own : (a b : Option (List ℕ)) → IsKind a → IsKind b → kind_field a ≡ kind_field b → a ≡ b
+kind_own None None is other e = refl
+kind_own None (Some t) is other e = absurd (no_mark_token t other (sym e))
+kind_own (Some t) None is other e = absurd (no_mark_token t is e)
+kind_own (Some t) (Some u) is other e = ap Some (token_of_own t u is other e)
+
+load_own : (caller caller_2 : ℕ) (all all_2 : Bool) (mode mode_2 : Merge) (kind kind_2 : Option (List ℕ)) (keys keys_2 : List (List ℕ)) → IsCommand (Load caller all mode kind keys) → IsCommand (Load caller_2 all_2 mode_2 kind_2 keys_2) → spell (Load caller all mode kind keys) ≡ spell (Load caller_2 all_2 mode_2 kind_2 keys_2) → Load caller all mode kind keys ≡ Load caller_2 all_2 mode_2 kind_2 keys_2
+load_own caller caller_2 all all_2 mode mode_2 kind kind_2 keys keys_2 is other e =
+    let d = asked_keys_field keys in
+    let d_2 = asked_keys_field keys_2 in
+    let c = kind_field kind ++ 32 ∷ d in
+    let c_2 = kind_field kind_2 ++ 32 ∷ d_2 in
+    let b = mode_word mode ++ 32 ∷ c in
+    let b_2 = mode_word mode_2 ++ 32 ∷ c_2 in
+    let a = one_or_all all ++ 32 ∷ b in
+    let a_2 = one_or_all all_2 ++ 32 ∷ b_2 in
+    let first = number_then_own caller caller_2 a a_2 is.0 other.0 (append_cancel_left (codes "load ") (decimal caller ++ 32 ∷ a) (decimal caller_2 ++ 32 ∷ a_2) e) in
+    let second = same_cut 32 (one_or_all all) b (one_or_all all_2) b_2 (all_free all) (all_free all_2) first.1 in
+    let third = same_cut 32 (mode_word mode) c (mode_word mode_2) c_2 (mode_free mode) (mode_free mode_2) second.1 in
+    let fourth = same_cut 32 (kind_field kind) d (kind_field kind_2) d_2 (kind_free kind is.1) (kind_free kind_2 other.1) third.1 in
+    let same_all = all_own all all_2 second.0 in
+    let same_mode = mode_own mode mode_2 third.0 in
+    let same_kind = kind_own kind kind_2 is.1 other.1 fourth.0 in
+    let same_keys = keys_own keys keys_2 is.2.0 other.2.0 fourth.1 in
+    cc (first.0, same_all, same_mode, same_kind, same_keys)
+
+-- bytes that tell the words of the commands apart by their sum
+abbrev word_mark : List ℕ → ℕ
+word_mark (a ∷ b ∷ c ∷ d ∷ e ∷ more) = a + b + c + e
+word_mark short = 0
 
 spell_own : (a b : Command) → IsCommand a → IsCommand b → spell a ≡ spell b → a ≡ b
-spell_own (Load caller all mode kind keys) (Load caller_2 all_2 mode_2 kind_2 keys_2) is other e =
-    let plain : spell (Load caller false UseFirst None keys) ≡ spell (Load caller_2 false UseFirst None keys_2) = rw (is.1, is.2, is.3, other.1, other.2, other.3) at e in
-    let same = load_own caller caller_2 keys keys_2 is.0 other.0 is.4.0 other.4.0 plain in
-    rw (is.1, is.2, is.3, other.1, other.2, other.3, same.0, same.1) refl
-spell_own (Load caller all mode kind keys) (Release caller_2 op_2) is other e = absurd (apart 219 215 refl (ap first_two e))
-spell_own (Load caller all mode kind keys) (Status op_2) is other e = absurd (apart 219 231 refl (ap first_two e))
-spell_own (Load caller all mode kind keys) (Count b_2) is other e = absurd (apart 219 210 refl (ap first_two e))
-spell_own (Load caller all mode kind keys) Close is other e = absurd (apart 219 207 refl (ap first_two e))
-spell_own (Load caller all mode kind keys) (Take worker_2) is other e = absurd (apart 219 213 refl (ap first_two e))
-spell_own (Load caller all mode kind keys) (Done worker_2 b_2) is other e = absurd (apart 219 211 refl (ap first_two e))
-spell_own (Load caller all mode kind keys) (Fail worker_2 b_2 cause_2) is other e = absurd (apart 219 199 refl (ap first_two e))
-spell_own (Release caller op) (Load caller_2 all_2 mode_2 kind_2 keys_2) is other e = absurd (apart 215 219 refl (ap first_two e))
+spell_own (Load caller all mode kind keys) (Load caller_2 all_2 mode_2 kind_2 keys_2) is other e = load_own caller caller_2 all all_2 mode mode_2 kind kind_2 keys keys_2 is other e
+spell_own (Load caller all mode kind keys) (Release caller_2 op_2) is other e = absurd (apart 348 420 refl (ap word_mark e))
+spell_own (Load caller all mode kind keys) (Status op_2) is other e = absurd (apart 348 445 refl (ap word_mark e))
+spell_own (Load caller all mode kind keys) (Read op_2 i_2) is other e = absurd (apart 348 344 refl (ap word_mark e))
+spell_own (Load caller all mode kind keys) (Count b_2) is other e = absurd (apart 348 443 refl (ap word_mark e))
+spell_own (Load caller all mode kind keys) Close is other e = absurd (apart 348 419 refl (ap word_mark e))
+spell_own (Load caller all mode kind keys) (Take worker_2) is other e = absurd (apart 348 352 refl (ap word_mark e))
+spell_own (Load caller all mode kind keys) (Done worker_2 b_2) is other e = absurd (apart 348 353 refl (ap word_mark e))
+spell_own (Load caller all mode kind keys) (Fail worker_2 b_2 cause_2) is other e = absurd (apart 348 336 refl (ap word_mark e))
+spell_own (Release caller op) (Load caller_2 all_2 mode_2 kind_2 keys_2) is other e = absurd (apart 420 348 refl (ap word_mark e))
 spell_own (Release caller op) (Release caller_2 op_2) is other e =
     let same = number_then_own caller caller_2 (decimal op.0) (decimal op_2.0) is.0 other.0 (append_cancel_left (codes "release ") (decimal caller ++ 32 ∷ decimal op.0) (decimal caller_2 ++ 32 ∷ decimal op_2.0) e) in
     cc (same.0, op_own op op_2 is.1 other.1 same.1)
-spell_own (Release caller op) (Status op_2) is other e = absurd (apart 215 231 refl (ap first_two e))
-spell_own (Release caller op) (Count b_2) is other e = absurd (apart 215 210 refl (ap first_two e))
-spell_own (Release caller op) Close is other e = absurd (apart 215 207 refl (ap first_two e))
-spell_own (Release caller op) (Take worker_2) is other e = absurd (apart 215 213 refl (ap first_two e))
-spell_own (Release caller op) (Done worker_2 b_2) is other e = absurd (apart 215 211 refl (ap first_two e))
-spell_own (Release caller op) (Fail worker_2 b_2 cause_2) is other e = absurd (apart 215 199 refl (ap first_two e))
-spell_own (Status op) (Load caller_2 all_2 mode_2 kind_2 keys_2) is other e = absurd (apart 231 219 refl (ap first_two e))
-spell_own (Status op) (Release caller_2 op_2) is other e = absurd (apart 231 215 refl (ap first_two e))
+spell_own (Release caller op) (Status op_2) is other e = absurd (apart 420 445 refl (ap word_mark e))
+spell_own (Release caller op) (Read op_2 i_2) is other e = absurd (apart 420 344 refl (ap word_mark e))
+spell_own (Release caller op) (Count b_2) is other e = absurd (apart 420 443 refl (ap word_mark e))
+spell_own (Release caller op) Close is other e = absurd (apart 420 419 refl (ap word_mark e))
+spell_own (Release caller op) (Take worker_2) is other e = absurd (apart 420 352 refl (ap word_mark e))
+spell_own (Release caller op) (Done worker_2 b_2) is other e = absurd (apart 420 353 refl (ap word_mark e))
+spell_own (Release caller op) (Fail worker_2 b_2 cause_2) is other e = absurd (apart 420 336 refl (ap word_mark e))
+spell_own (Status op) (Load caller_2 all_2 mode_2 kind_2 keys_2) is other e = absurd (apart 445 348 refl (ap word_mark e))
+spell_own (Status op) (Release caller_2 op_2) is other e = absurd (apart 445 420 refl (ap word_mark e))
 spell_own (Status op) (Status op_2) is other e = ap Status (op_own op op_2 is other (append_cancel_left (codes "status ") (decimal op.0) (decimal op_2.0) e))
-spell_own (Status op) (Count b_2) is other e = absurd (apart 231 210 refl (ap first_two e))
-spell_own (Status op) Close is other e = absurd (apart 231 207 refl (ap first_two e))
-spell_own (Status op) (Take worker_2) is other e = absurd (apart 231 213 refl (ap first_two e))
-spell_own (Status op) (Done worker_2 b_2) is other e = absurd (apart 231 211 refl (ap first_two e))
-spell_own (Status op) (Fail worker_2 b_2 cause_2) is other e = absurd (apart 231 199 refl (ap first_two e))
-spell_own (Count b) (Load caller_2 all_2 mode_2 kind_2 keys_2) is other e = absurd (apart 210 219 refl (ap first_two e))
-spell_own (Count b) (Release caller_2 op_2) is other e = absurd (apart 210 215 refl (ap first_two e))
-spell_own (Count b) (Status op_2) is other e = absurd (apart 210 231 refl (ap first_two e))
+spell_own (Status op) (Read op_2 i_2) is other e = absurd (apart 445 344 refl (ap word_mark e))
+spell_own (Status op) (Count b_2) is other e = absurd (apart 445 443 refl (ap word_mark e))
+spell_own (Status op) Close is other e = absurd (apart 445 419 refl (ap word_mark e))
+spell_own (Status op) (Take worker_2) is other e = absurd (apart 445 352 refl (ap word_mark e))
+spell_own (Status op) (Done worker_2 b_2) is other e = absurd (apart 445 353 refl (ap word_mark e))
+spell_own (Status op) (Fail worker_2 b_2 cause_2) is other e = absurd (apart 445 336 refl (ap word_mark e))
+spell_own (Read op i) (Load caller_2 all_2 mode_2 kind_2 keys_2) is other e = absurd (apart 344 348 refl (ap word_mark e))
+spell_own (Read op i) (Release caller_2 op_2) is other e = absurd (apart 344 420 refl (ap word_mark e))
+spell_own (Read op i) (Status op_2) is other e = absurd (apart 344 445 refl (ap word_mark e))
+spell_own (Read op i) (Read op_2 i_2) is other e =
+    let same = number_then_own op.0 op_2.0 (decimal i) (decimal i_2) is.0 other.0 (append_cancel_left (codes "read ") (decimal op.0 ++ 32 ∷ decimal i) (decimal op_2.0 ++ 32 ∷ decimal i_2) e) in
+    let ops = ap {B = OpId} (λ (n : ℕ). record { 0 = n }) same.0 in
+    cc (ops, number_own i i_2 is.1 other.1 same.1)
+spell_own (Read op i) (Count b_2) is other e = absurd (apart 344 443 refl (ap word_mark e))
+spell_own (Read op i) Close is other e = absurd (apart 344 419 refl (ap word_mark e))
+spell_own (Read op i) (Take worker_2) is other e = absurd (apart 344 352 refl (ap word_mark e))
+spell_own (Read op i) (Done worker_2 b_2) is other e = absurd (apart 344 353 refl (ap word_mark e))
+spell_own (Read op i) (Fail worker_2 b_2 cause_2) is other e = absurd (apart 344 336 refl (ap word_mark e))
+spell_own (Count b) (Load caller_2 all_2 mode_2 kind_2 keys_2) is other e = absurd (apart 443 348 refl (ap word_mark e))
+spell_own (Count b) (Release caller_2 op_2) is other e = absurd (apart 443 420 refl (ap word_mark e))
+spell_own (Count b) (Status op_2) is other e = absurd (apart 443 445 refl (ap word_mark e))
+spell_own (Count b) (Read op_2 i_2) is other e = absurd (apart 443 344 refl (ap word_mark e))
 spell_own (Count b) (Count b_2) is other e = ap Count (bundle_own b b_2 is other (append_cancel_left (codes "count ") (decimal b.0) (decimal b_2.0) e))
-spell_own (Count b) Close is other e = absurd (apart 210 207 refl (ap first_two e))
-spell_own (Count b) (Take worker_2) is other e = absurd (apart 210 213 refl (ap first_two e))
-spell_own (Count b) (Done worker_2 b_2) is other e = absurd (apart 210 211 refl (ap first_two e))
-spell_own (Count b) (Fail worker_2 b_2 cause_2) is other e = absurd (apart 210 199 refl (ap first_two e))
-spell_own Close (Load caller_2 all_2 mode_2 kind_2 keys_2) is other e = absurd (apart 207 219 refl (ap first_two e))
-spell_own Close (Release caller_2 op_2) is other e = absurd (apart 207 215 refl (ap first_two e))
-spell_own Close (Status op_2) is other e = absurd (apart 207 231 refl (ap first_two e))
-spell_own Close (Count b_2) is other e = absurd (apart 207 210 refl (ap first_two e))
+spell_own (Count b) Close is other e = absurd (apart 443 419 refl (ap word_mark e))
+spell_own (Count b) (Take worker_2) is other e = absurd (apart 443 352 refl (ap word_mark e))
+spell_own (Count b) (Done worker_2 b_2) is other e = absurd (apart 443 353 refl (ap word_mark e))
+spell_own (Count b) (Fail worker_2 b_2 cause_2) is other e = absurd (apart 443 336 refl (ap word_mark e))
+spell_own Close (Load caller_2 all_2 mode_2 kind_2 keys_2) is other e = absurd (apart 419 348 refl (ap word_mark e))
+spell_own Close (Release caller_2 op_2) is other e = absurd (apart 419 420 refl (ap word_mark e))
+spell_own Close (Status op_2) is other e = absurd (apart 419 445 refl (ap word_mark e))
+spell_own Close (Read op_2 i_2) is other e = absurd (apart 419 344 refl (ap word_mark e))
+spell_own Close (Count b_2) is other e = absurd (apart 419 443 refl (ap word_mark e))
 spell_own Close Close is other e = refl
-spell_own Close (Take worker_2) is other e = absurd (apart 207 213 refl (ap first_two e))
-spell_own Close (Done worker_2 b_2) is other e = absurd (apart 207 211 refl (ap first_two e))
-spell_own Close (Fail worker_2 b_2 cause_2) is other e = absurd (apart 207 199 refl (ap first_two e))
-spell_own (Take worker) (Load caller_2 all_2 mode_2 kind_2 keys_2) is other e = absurd (apart 213 219 refl (ap first_two e))
-spell_own (Take worker) (Release caller_2 op_2) is other e = absurd (apart 213 215 refl (ap first_two e))
-spell_own (Take worker) (Status op_2) is other e = absurd (apart 213 231 refl (ap first_two e))
-spell_own (Take worker) (Count b_2) is other e = absurd (apart 213 210 refl (ap first_two e))
-spell_own (Take worker) Close is other e = absurd (apart 213 207 refl (ap first_two e))
+spell_own Close (Take worker_2) is other e = absurd (apart 419 352 refl (ap word_mark e))
+spell_own Close (Done worker_2 b_2) is other e = absurd (apart 419 353 refl (ap word_mark e))
+spell_own Close (Fail worker_2 b_2 cause_2) is other e = absurd (apart 419 336 refl (ap word_mark e))
+spell_own (Take worker) (Load caller_2 all_2 mode_2 kind_2 keys_2) is other e = absurd (apart 352 348 refl (ap word_mark e))
+spell_own (Take worker) (Release caller_2 op_2) is other e = absurd (apart 352 420 refl (ap word_mark e))
+spell_own (Take worker) (Status op_2) is other e = absurd (apart 352 445 refl (ap word_mark e))
+spell_own (Take worker) (Read op_2 i_2) is other e = absurd (apart 352 344 refl (ap word_mark e))
+spell_own (Take worker) (Count b_2) is other e = absurd (apart 352 443 refl (ap word_mark e))
+spell_own (Take worker) Close is other e = absurd (apart 352 419 refl (ap word_mark e))
 spell_own (Take worker) (Take worker_2) is other e = ap Take (number_own worker worker_2 is other (append_cancel_left (codes "take ") (decimal worker) (decimal worker_2) e))
-spell_own (Take worker) (Done worker_2 b_2) is other e = absurd (apart 213 211 refl (ap first_two e))
-spell_own (Take worker) (Fail worker_2 b_2 cause_2) is other e = absurd (apart 213 199 refl (ap first_two e))
-spell_own (Done worker b) (Load caller_2 all_2 mode_2 kind_2 keys_2) is other e = absurd (apart 211 219 refl (ap first_two e))
-spell_own (Done worker b) (Release caller_2 op_2) is other e = absurd (apart 211 215 refl (ap first_two e))
-spell_own (Done worker b) (Status op_2) is other e = absurd (apart 211 231 refl (ap first_two e))
-spell_own (Done worker b) (Count b_2) is other e = absurd (apart 211 210 refl (ap first_two e))
-spell_own (Done worker b) Close is other e = absurd (apart 211 207 refl (ap first_two e))
-spell_own (Done worker b) (Take worker_2) is other e = absurd (apart 211 213 refl (ap first_two e))
+spell_own (Take worker) (Done worker_2 b_2) is other e = absurd (apart 352 353 refl (ap word_mark e))
+spell_own (Take worker) (Fail worker_2 b_2 cause_2) is other e = absurd (apart 352 336 refl (ap word_mark e))
+spell_own (Done worker b) (Load caller_2 all_2 mode_2 kind_2 keys_2) is other e = absurd (apart 353 348 refl (ap word_mark e))
+spell_own (Done worker b) (Release caller_2 op_2) is other e = absurd (apart 353 420 refl (ap word_mark e))
+spell_own (Done worker b) (Status op_2) is other e = absurd (apart 353 445 refl (ap word_mark e))
+spell_own (Done worker b) (Read op_2 i_2) is other e = absurd (apart 353 344 refl (ap word_mark e))
+spell_own (Done worker b) (Count b_2) is other e = absurd (apart 353 443 refl (ap word_mark e))
+spell_own (Done worker b) Close is other e = absurd (apart 353 419 refl (ap word_mark e))
+spell_own (Done worker b) (Take worker_2) is other e = absurd (apart 353 352 refl (ap word_mark e))
 spell_own (Done worker b) (Done worker_2 b_2) is other e =
     let same = number_then_own worker worker_2 (decimal b.0) (decimal b_2.0) is.0 other.0 (append_cancel_left (codes "done ") (decimal worker ++ 32 ∷ decimal b.0) (decimal worker_2 ++ 32 ∷ decimal b_2.0) e) in
     cc (same.0, bundle_own b b_2 is.1 other.1 same.1)
-spell_own (Done worker b) (Fail worker_2 b_2 cause_2) is other e = absurd (apart 211 199 refl (ap first_two e))
-spell_own (Fail worker b cause) (Load caller_2 all_2 mode_2 kind_2 keys_2) is other e = absurd (apart 199 219 refl (ap first_two e))
-spell_own (Fail worker b cause) (Release caller_2 op_2) is other e = absurd (apart 199 215 refl (ap first_two e))
-spell_own (Fail worker b cause) (Status op_2) is other e = absurd (apart 199 231 refl (ap first_two e))
-spell_own (Fail worker b cause) (Count b_2) is other e = absurd (apart 199 210 refl (ap first_two e))
-spell_own (Fail worker b cause) Close is other e = absurd (apart 199 207 refl (ap first_two e))
-spell_own (Fail worker b cause) (Take worker_2) is other e = absurd (apart 199 213 refl (ap first_two e))
-spell_own (Fail worker b cause) (Done worker_2 b_2) is other e = absurd (apart 199 211 refl (ap first_two e))
+spell_own (Done worker b) (Fail worker_2 b_2 cause_2) is other e = absurd (apart 353 336 refl (ap word_mark e))
+spell_own (Fail worker b cause) (Load caller_2 all_2 mode_2 kind_2 keys_2) is other e = absurd (apart 336 348 refl (ap word_mark e))
+spell_own (Fail worker b cause) (Release caller_2 op_2) is other e = absurd (apart 336 420 refl (ap word_mark e))
+spell_own (Fail worker b cause) (Status op_2) is other e = absurd (apart 336 445 refl (ap word_mark e))
+spell_own (Fail worker b cause) (Read op_2 i_2) is other e = absurd (apart 336 344 refl (ap word_mark e))
+spell_own (Fail worker b cause) (Count b_2) is other e = absurd (apart 336 443 refl (ap word_mark e))
+spell_own (Fail worker b cause) Close is other e = absurd (apart 336 419 refl (ap word_mark e))
+spell_own (Fail worker b cause) (Take worker_2) is other e = absurd (apart 336 352 refl (ap word_mark e))
+spell_own (Fail worker b cause) (Done worker_2 b_2) is other e = absurd (apart 336 353 refl (ap word_mark e))
 spell_own (Fail worker b cause) (Fail worker_2 b_2 cause_2) is other e =
     let rest = decimal b.0 ++ 32 ∷ cause_text cause in
     let rest_2 = decimal b_2.0 ++ 32 ∷ cause_text cause_2 in
@@ -232,19 +301,40 @@ commands_own (a ∷ commands) (b ∷ others) each other e =
 limit_own : (n m : ℕ) → IsLimit n → IsLimit m → codes "limit " ++ decimal n ≡ codes "limit " ++ decimal m → n ≡ m
 limit_own n m is other e = number_own n m (omega (arith, is.1)) (omega (arith, other.1)) (append_cancel_left (codes "limit ") (decimal n) (decimal m) e)
 
-same_script : (a b : Option ℕ) (commands others : List Command) → a ≡ b → commands ≡ others → ◌≡◌ {A = Script} (record { limit = a; commands = commands }) (record { limit = b; commands = others })
-same_script a b commands others limits same = rw (limits, same)
+set_own : (v w : Var) → IsSet v → IsSet w → set_line v ≡ set_line w → v ≡ w
+set_own v w is other e =
+    let rest = append_cancel_left (codes "set ") (token_of v.name ++ 32 ∷ token_of v.value) (token_of w.name ++ 32 ∷ token_of w.value) e in
+    let parts = same_cut 32 (token_of v.name) (token_of v.value) (token_of w.name) (token_of w.value) (token_free_of_space v.name is.0) (token_free_of_space w.name other.0) rest in
+    same_var v w (token_of_own v.name w.name is.0 other.0 parts.0) (token_of_own v.value w.value is.1 other.1 parts.1)
+  where
+    same_var : (a b : Var) → a.name ≡ b.name → a.value ≡ b.value → a ≡ b
+    same_var a b names values = λ i. record { name = names i; value = values i }
 
-parts_own : (a b : Option ℕ) (commands others : List Command) → IfSome a IsLimit → IfSome b IsLimit → AllByRecursion IsCommand commands → AllByRecursion IsCommand others → limit_lines a ++ map spell commands ≡ limit_lines b ++ map spell others → (a ≡ b) × (commands ≡ others)
-parts_own None None commands others small_a small_b each other e = (refl, commands_own commands others each other e)
-parts_own None (Some m) commands others small_a small_b each other e = absurd (no_limit_first commands m (map spell others) e)
-parts_own (Some n) None commands others small_a small_b each other e = absurd (no_limit_first others n (map spell commands) (sym e))
-parts_own (Some n) (Some m) commands others small_a small_b each other e =
+body_own : (vars others : List Var) (commands more : List Command) → AllByRecursion IsSet vars → AllByRecursion IsSet others → AllByRecursion IsCommand commands → AllByRecursion IsCommand more → body_lines vars commands ≡ body_lines others more → (vars ≡ others) × (commands ≡ more)
+body_own [] [] commands more sets also each other e = (refl, commands_own commands more each other e)
+body_own [] (w ∷ others) [] more sets also each other e = cc
+body_own [] (w ∷ others) (c ∷ commands) more sets also each other e = absurd (no_set_line c w (cc))
+body_own (v ∷ vars) [] commands [] sets also each other e = cc
+body_own (v ∷ vars) [] commands (c ∷ more) sets also each other e = absurd (no_set_line c v (cc))
+body_own (v ∷ vars) (w ∷ others) commands more sets also each other e =
+    let head = set_own v w sets.0 also.0 (cc) in
+    let rest = body_own vars others commands more sets.1 also.1 each other (cc) in
+    (cc (head, rest.0), rest.1)
+
+same_script : (a b : Option ℕ) (vars others : List Var) (commands more : List Command) → a ≡ b → vars ≡ others → commands ≡ more → ◌≡◌ {A = Script} (record { limit = a; vars = vars; commands = commands }) (record { limit = b; vars = others; commands = more })
+same_script a b vars others commands more limits sets same = rw (limits, sets, same)
+
+parts_own : (a b : Option ℕ) (vars others : List Var) (commands more : List Command) → IfSome a IsLimit → IfSome b IsLimit → AllByRecursion IsSet vars → AllByRecursion IsSet others → AllByRecursion IsCommand commands → AllByRecursion IsCommand more → limit_lines a ++ body_lines vars commands ≡ limit_lines b ++ body_lines others more → (a ≡ b) × (body_lines vars commands ≡ body_lines others more)
+parts_own None None vars others commands more small_a small_b sets also each other e = (refl, e)
+parts_own None (Some m) vars others commands more small_a small_b sets also each other e = absurd (no_limit_first vars commands m (body_lines others more) e)
+parts_own (Some n) None vars others commands more small_a small_b sets also each other e = absurd (no_limit_first others more n (body_lines vars commands) (sym e))
+parts_own (Some n) (Some m) vars others commands more small_a small_b sets also each other e =
     let first : codes "limit " ++ decimal n ≡ codes "limit " ++ decimal m = cc in
-    let rest : map spell commands ≡ map spell others = cc in
-    (ap Some (limit_own n m small_a small_b first), commands_own commands others each other rest)
+    let rest : body_lines vars commands ≡ body_lines others more = cc in
+    (ap Some (limit_own n m small_a small_b first), rest)
 
 pub own_script : (lines : List (List ℕ)) (s t : Script) → IsScript lines s → IsScript lines t → s ≡ t
 own_script lines s t is other =
-    let same = parts_own s.limit t.limit s.commands t.commands is.limit other.limit is.commands other.commands (sym is.spelled ∙ other.spelled) in
-    same_script s.limit t.limit s.commands t.commands same.0 same.1
+    let parts = parts_own s.limit t.limit s.vars t.vars s.commands t.commands is.limit other.limit is.vars other.vars is.commands other.commands (sym is.spelled ∙ other.spelled) in
+    let same = body_own s.vars t.vars s.commands t.commands is.vars other.vars is.commands other.commands parts.1 in
+    same_script s.limit t.limit s.vars t.vars s.commands t.commands parts.0 same.0 same.1

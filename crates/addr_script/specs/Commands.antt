@@ -3,11 +3,12 @@ use Rattle.std.specs.Prelude.{ℕ, ◌≡◌, ◌≢◌, ◌<◌, ◌^◌, Bool,
 use Rattle.std.specs.List.{AllByRecursion, join_with_byte}
 use Rattle.std.specs.Str.{IsUtf8}
 use Rattle.addr_base.specs.Tokens.{token_of}
+use Rattle.addr_base.specs.declared.var.Var.{Var}
 use Rattle.addr_locate.specs.declared.rows.Merge.{Merge}
 use Rattle.addr_locate.specs.declared.rows.Merge.TheVariants.{UseFirst, Union, Intersection}
 use Rattle.addr_script.specs.Causes.{cause_text, IsGivenCause}
 use Rattle.addr_script.specs.declared.command.Command.{Command}
-use Rattle.addr_script.specs.declared.command.Command.TheVariants.{Load, Release, Status, Count, Close, Take, Done, Fail}
+use Rattle.addr_script.specs.declared.command.Command.TheVariants.{Load, Release, Status, Read, Count, Close, Take, Done, Fail}
 
 abbrev pub one_or_all : Bool → List ℕ
 one_or_all false = codes "one"
@@ -31,6 +32,7 @@ abbrev pub spell : Command → List ℕ
 spell (Load caller all mode kind keys) = codes "load " ++ (decimal caller ++ 32 ∷ (one_or_all all ++ 32 ∷ (mode_word mode ++ 32 ∷ (kind_field kind ++ 32 ∷ asked_keys_field keys))))
 spell (Release caller op) = codes "release " ++ (decimal caller ++ 32 ∷ decimal op.0)
 spell (Status op) = codes "status " ++ decimal op.0
+spell (Read op i) = codes "read " ++ (decimal op.0 ++ 32 ∷ decimal i)
 spell (Count b) = codes "count " ++ decimal b.0
 spell Close = codes "close"
 spell (Take worker) = codes "take " ++ decimal worker
@@ -45,16 +47,34 @@ AreTexts texts = (texts ≢ []) × AllByRecursion IsUtf8 texts
 abbrev pub AreKeys : List (List ℕ) → Type 0
 AreKeys keys = AreTexts keys × (length keys < 2 ^ 32)
 
--- the commands that a script may have: numbers below 2 to the 32nd; a load of one row under the first key that has any, of any type
+-- a type that a load may ask for: any, or one that has a text
+abbrev pub IsKind : Option (List ℕ) → Type 0
+IsKind None = Unit {0}
+IsKind (Some kind) = IsUtf8 kind
+
+-- the commands that a script may have: numbers below 2 to the 32nd, and texts in UTF-8
 abbrev pub IsCommand : Command → Type 0
-IsCommand (Load caller all mode kind keys) = (caller < 2 ^ 32) × (all ≡ false) × (mode ≡ UseFirst) × (kind ≡ None) × AreKeys keys
+IsCommand (Load caller all mode kind keys) = (caller < 2 ^ 32) × IsKind kind × AreKeys keys
 IsCommand (Release caller op) = (caller < 2 ^ 32) × (op.0 < 2 ^ 32)
 IsCommand (Status op) = op.0 < 2 ^ 32
+IsCommand (Read op i) = (op.0 < 2 ^ 32) × (i < 2 ^ 32)
 IsCommand (Count b) = b.0 < 2 ^ 32
 IsCommand Close = Unit {0}
 IsCommand (Take worker) = worker < 2 ^ 32
 IsCommand (Done worker b) = (worker < 2 ^ 32) × (b.0 < 2 ^ 32)
 IsCommand (Fail worker b cause) = (worker < 2 ^ 32) × (b.0 < 2 ^ 32) × IsGivenCause cause
+
+-- the line that sets a variable: its name and its value
+abbrev pub set_line : Var → List ℕ
+set_line v = codes "set " ++ (token_of v.name ++ 32 ∷ token_of v.value)
+
+abbrev pub IsSet : Var → Type 0
+IsSet v = IsUtf8 v.name × IsUtf8 v.value
+
+-- what a line is read as that may set a variable
+abbrev pub ReadsSet : List ℕ → Option Var → Type 0
+ReadsSet line (Some v) = IsSet v × (line ≡ set_line v)
+ReadsSet line None = (v : Var) → IsSet v → line ≡ set_line v → ⊥
 
 -- the line is the command's
 abbrev pub Spells : List ℕ → Command → Type 0

@@ -1,5 +1,6 @@
 -- The replies to commands, and the line that each is printed as.
-use Rattle.std.specs.Prelude.{ℕ, List, ◌∷◌, ◌++◌, Some, None, codes, decimal}
+use Rattle.std.specs.Prelude.{ℕ, ◌==◌, nat_le, List, ◌∷◌, ◌++◌, Some, None, length, codes, decimal, if◌then◌else◌}
+use Rattle.addr_base.specs.Ids.{digest_of, hex_of}
 use Rattle.addr_history.specs.declared.answers.BundleState.{BundleState}
 use Rattle.addr_history.specs.declared.answers.BundleState.TheVariants.{Resident, Fetching, Queued, Absent}
 use Rattle.addr_history.specs.declared.answers.Next.{Next}
@@ -10,7 +11,7 @@ use Rattle.addr_history.specs.declared.answers.Settled.{Settled}
 use Rattle.addr_history.specs.declared.answers.Settled.TheVariants.{Kept, Dropped}
 use Rattle.addr_script.specs.Causes.{cause_text}
 use Rattle.addr_script.specs.declared.reply.Reply.{Reply}
-use Rattle.addr_script.specs.declared.reply.Reply.TheVariants.{Opened, NoLocation, JournalFull, Closed, Released, NoHandle, Status, Next as NextReply, Settled as SettledReply, NotTaken, Noted, NowClosed, Counted, NoBundle}
+use Rattle.addr_script.specs.declared.reply.Reply.TheVariants.{Opened, NoLocation, JournalFull, Closed, Released, NoHandle, Status, Next as NextReply, Settled as SettledReply, NotTaken, Noted, NowClosed, Counted, NoBundle, Bytes, NoAsset, AbsentFrom}
 
 abbrev pub status_text : OpStatus → List ℕ
 status_text Pending = codes "pending"
@@ -32,6 +33,10 @@ abbrev pub settled_word : Settled → List ℕ
 settled_word Kept = codes "kept"
 settled_word Dropped = codes "dropped"
 
+-- bytes: themselves in hex where there are 1 to 64, `-` where there are none, else `#` (35) and their digest
+unfoldable pub content_text : List ℕ → List ℕ
+content_text bytes = if length bytes == 0 then codes "-" else if nat_le (length bytes) 64 then hex_of bytes else 35 ∷ hex_of (digest_of bytes)
+
 -- a key is named by its token, and `%-` says that there is none to name
 unfoldable pub reply_text : Reply → List ℕ
 reply_text (Opened op) = codes "op " ++ decimal op.0
@@ -49,3 +54,6 @@ reply_text Noted = codes "failed"
 reply_text NowClosed = codes "close"
 reply_text (Counted count state) = codes "count " ++ (decimal count ++ 32 ∷ state_word state)
 reply_text NoBundle = codes "no-bundle"
+reply_text (Bytes length content) = codes "bytes " ++ (decimal length ++ 32 ∷ content)
+reply_text NoAsset = codes "no-asset"
+reply_text (AbsentFrom b) = codes "absent " ++ decimal b.0

@@ -1,16 +1,32 @@
 -- The parts of a script: its limit, the lines of its commands, and where the reading ends; and the parts of a load's line.
-use Rattle.std.specs.Prelude.{ℕ, ◌≡◌, ◌<◌, ◌≤◌, ◌+◌, ◌^◌, List, ◌∷◌, ◌++◌, Option, Some, None, Result, Ok, Err, IfSome, length, map, codes, decimal}
+use Rattle.std.specs.Prelude.{ℕ, ◌≡◌, ◌<◌, ◌≤◌, ◌+◌, ◌^◌, Bool, List, ◌∷◌, ◌++◌, Option, Some, None, Result, Ok, Err, IfSome, length, map, codes, decimal}
 use Rattle.std.specs.List.{AllByRecursion}
-use Rattle.addr_script.specs.Commands.{spell, IsCommand, ReadsCommand}
+use Rattle.addr_base.specs.declared.var.Var.{Var}
+use Rattle.addr_locate.specs.declared.rows.Merge.{Merge}
+use Rattle.addr_script.specs.Commands.{asked_keys_field, kind_field, mode_word, one_or_all, set_line, spell, AreKeys, IsCommand, IsKind, IsSet, ReadsCommand}
 use Rattle.addr_script.specs.Scripts.{IsLimit, limit_lines}
+use Rattle.addr_fields.specs.Fields.{IsCut, IsNumberThen}
 use Rattle.addr_fields.specs.Lines.{lines_of}
 use Rattle.addr_script.specs.declared.command.Command.{Command}
 use Rattle.addr_script.specs.declared.error.ScriptErr.{ScriptErr}
 use Rattle.addr_script.specs.declared.error.ScriptErr.TheVariants.{Line, NoMemory}
 
--- the line of a load of one row under the first key that has any, of any type: its caller and the field of its keys
-abbrev pub IsLoadLine : List ℕ → ℕ → List ℕ → Type 0
-IsLoadLine line caller field = (caller < 2 ^ 32) × (line ≡ codes "load " ++ (decimal caller ++ 32 ∷ (codes "one first %* " ++ field)))
+-- the line of a load: its caller, three words with a space behind each, and the rest
+abbrev pub IsLoadLine : List ℕ → ℕ → List ℕ → List ℕ → List ℕ → List ℕ → Type 0
+IsLoadLine line caller all mode kind keys = (a b c d : List ℕ) × (line ≡ codes "load " ++ a) × IsNumberThen a caller b × IsCut 32 b all c × IsCut 32 c mode d × IsCut 32 d kind keys
+
+-- the line that sets a variable: the fields of its name and of its value
+abbrev pub IsSetLine : List ℕ → List ℕ → List ℕ → Type 0
+IsSetLine line name value = (a : List ℕ) × (line ≡ codes "set " ++ a) × IsCut 32 a name value
+
+-- the words say whether all rows are asked for, how keys are joined, of which type, and which keys
+pub record SaysAsk (all mode kind keys : List ℕ) (asked_all : Bool) (asked_mode : Merge) (asked_kind : Option (List ℕ)) (asked_keys : List (List ℕ)) : Type 0 where
+  pub which : all ≡ one_or_all asked_all
+  pub join : mode ≡ mode_word asked_mode
+  pub type : kind ≡ kind_field asked_kind
+  pub field : keys ≡ asked_keys_field asked_keys
+  pub is_kind : IsKind asked_kind
+  pub are_keys : AreKeys asked_keys
 
 -- the lines are those that spell the commands
 pub record AreCommands (lines : List (List ℕ)) (commands : List Command) : Type 0 where
@@ -22,6 +38,14 @@ pub record HasLimit (lines : List (List ℕ)) (limit : Option ℕ) (rest : List 
   pub whole : lines ≡ limit_lines limit ++ rest
   pub small : IfSome limit IsLimit
   pub none : limit ≡ None → (n : ℕ) (more : List (List ℕ)) → IsLimit n → lines ≡ limit_lines (Some n) ++ more → ⊥
+
+-- the lines, of which the first is line n of the whole, begin with those that set variables; no other such line follows within the first 100,000
+pub record HasSets (lines : List (List ℕ)) (n : ℕ) (vars : List Var) (rest : List (List ℕ)) (next : ℕ) : Type 0 where
+  pub whole : lines ≡ map set_line vars ++ rest
+  pub each : AllByRecursion IsSet vars
+  pub place : next ≡ n + length vars
+  pub few : next ≤ 100001
+  pub none : next ≤ 100000 → (v : Var) (more : List (List ℕ)) → IsSet v → rest ≡ set_line v ∷ more → ⊥
 
 -- among lines of which the first is line n of the whole, one line is the first bad one: behind lines of commands, and itself none's or past the end
 pub record IsBadFrom (lines : List (List ℕ)) (n bad : ℕ) : Type 0 where

@@ -1,7 +1,9 @@
 -- Which bytes are a script, and which line of other bytes is the first bad one.
 use Rattle.std.specs.Prelude.{ℕ, ◌≡◌, ◌≤◌, ◌-◌, List, [], ◌∷◌, ◌++◌, Option, Some, None, Result, Ok, Err, IfSome, length, map, take, codes, decimal}
 use Rattle.std.specs.List.{AllByRecursion}
-use Rattle.addr_script.specs.Commands.{spell, IsCommand}
+use Rattle.addr_base.specs.declared.var.Var.{Var}
+use Rattle.addr_script.specs.Commands.{set_line, spell, IsCommand, IsSet}
+use Rattle.addr_script.specs.declared.command.Command.{Command}
 use Rattle.addr_fields.specs.Lines.{lines_of}
 use Rattle.addr_script.specs.declared.script.Script.{Script}
 use Rattle.addr_script.specs.declared.error.ScriptErr.{ScriptErr}
@@ -16,10 +18,15 @@ abbrev pub limit_lines : Option ℕ → List (List ℕ)
 limit_lines None = []
 limit_lines (Some n) = (codes "limit " ++ decimal n) ∷ []
 
--- the lines are a script's: the one of its limit, where it has one, and those of its commands; 100,000 at most
+-- the lines behind that of the limit: those that set variables, and then those of the commands
+abbrev pub body_lines : List Var → List Command → List (List ℕ)
+body_lines vars commands = map set_line vars ++ map spell commands
+
+-- the lines are a script's: the one of its limit, where it has one, those that set variables, and those of its commands; 100,000 at most
 pub record IsScript (lines : List (List ℕ)) (script : Script) : Type 0 where
-  pub spelled : lines ≡ limit_lines script.limit ++ map spell script.commands
+  pub spelled : lines ≡ limit_lines script.limit ++ body_lines script.vars script.commands
   pub limit : IfSome script.limit IsLimit
+  pub vars : AllByRecursion IsSet script.vars
   pub commands : AllByRecursion IsCommand script.commands
   pub few : length lines ≤ 100000
 

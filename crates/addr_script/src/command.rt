@@ -20,6 +20,11 @@ pub enum Command {
         op: OpId,
     },
     Status(OpId),
+    /// The bytes of the asset that an operation's i-th row is.
+    Read {
+        op: OpId,
+        i: u32,
+    },
     Count(BundleNo),
     Close,
     Take {

@@ -1,22 +1,19 @@
 // The commands of a script, read from their lines. Each command has a reader of its own, which finds it where it is there,
 // and only there; so which one is tried first makes no difference.
-ghost use Rattle.std.specs.Prelude.{◌≡◌, ◌<◌, ◌^◌, ◌++◌, ◌∷◌, ℕ, List, Option, Some, None, MatchOption, IfOk, IfSome, IsNone, false, decimal};
+ghost use Rattle.std.specs.Prelude.{◌≡◌, ◌<◌, ◌^◌, ℕ, Option, Some, None, MatchOption, IfOk, IfSome, IsNone};
 ghost use Rattle.addr_base.specs.declared.cause.Cause.{Cause};
 ghost use Rattle.addr_base.specs.declared.ids.BundleNo.{BundleNo};
 ghost use Rattle.addr_base.specs.declared.ids.OpId.{OpId};
-ghost use Rattle.addr_locate.specs.declared.rows.Merge.TheVariants.{UseFirst};
 ghost use Rattle.addr_script.specs.Causes.{cause_text, IsGivenCause};
 ghost use Rattle.addr_script.specs.Commands.{ReadsCommand, Spells};
-ghost use Rattle.addr_script.specs.ScriptParts.{IsLoadLine};
-ghost use Rattle.addr_script.specs.declared.command.Command.TheVariants.{Load, Release, Status, Count, Close, Take, Done, Fail};
+ghost use Rattle.addr_script.specs.declared.command.Command.TheVariants.{Release, Status, Read, Count, Close, Take, Done, Fail};
 
 use crate::command::Command;
-use crate::keys::key_list;
+use crate::loads::load;
 use addr_base::{BundleNo, Cause, NoMemory, OpId};
 use addr_fields::{
     after_word, is_same, long_after, number_after, number_then, short_after, two_numbers_after,
 };
-use addr_locate::Merge;
 use std::alloc::Global;
 
 /// The command that the line spells, or None where it spells none. Only the keys of a load take memory.
@@ -32,11 +29,12 @@ pub fn parse_command(alloc: Global, line: &[u8]) -> Result<Option<Command>, NoMe
     }
 }
 
-/// `status`, `count` and `close`.
+/// `status`, `read`, `count` and `close`.
 fn question(line: &[u8]) -> Option<Command>
     ensures found { IfSome result (λ command. Spells line.now command) }
     ensures close { IsNone result → Spells line.now Close → ⊥ }
     ensures status { IsNone result → (op : OpId) → Spells line.now (Status op) → ⊥ }
+    ensures read { IsNone result → (op : OpId) (i : ℕ) → Spells line.now (Read op i) → ⊥ }
     ensures count { IsNone result → (b : BundleNo) → Spells line.now (Count b) → ⊥ }
 {
     if is_same(line, b"close") {
@@ -44,6 +42,9 @@ fn question(line: &[u8]) -> Option<Command>
     }
     if let Some(op) = number_after(line, b"status ") {
         return Some(Command::Status(OpId(op)));
+    }
+    if let Some((op, i)) = two_numbers_after(line, b"read ") {
+        return Some(Command::Read { op: OpId(op), i });
     }
     match number_after(line, b"count ") {
         Some(b) => Some(Command::Count(BundleNo(b))),
@@ -111,37 +112,4 @@ fn given_cause(field: &[u8]) -> Option<Cause>
         Some(status) => Some(Cause::Refused(status)),
         None => None,
     }
-}
-
-fn load(alloc: Global, line: &[u8]) -> Result<Option<Command>, NoMemory>
-    ensures { IfOk result (λ found. MatchOption found
-        ((caller : ℕ) (keys : List (List ℕ)) → Spells line.now (Load caller false UseFirst None keys) → ⊥)
-        (λ command. Spells line.now command)) }
-{
-    match load_line(line) {
-        Some((caller, field)) => match key_list(alloc, field)? {
-            Some(keys) => Ok(Some(Command::Load {
-                caller,
-                all: false,
-                mode: Merge::UseFirst,
-                kind: None,
-                keys,
-            })),
-            None => Ok(None),
-        },
-        None => Ok(None),
-    }
-}
-
-/// The caller of a load, and the field of its keys.
-fn load_line(line: &[u8]) -> Option<(u32, &[u8])>
-    ensures found { MatchOption result ((caller : ℕ) (field : List ℕ) → IsLoadLine line.now caller field → ⊥)
-        (λ p. IsLoadLine line.now p.0 p.1.now) }
-    ensures only { IfSome result
-        (λ p. (caller : ℕ) (field : List ℕ) → IsLoadLine line.now caller field → (caller ≡ p.0)
-        × (field ≡ p.1.now)) }
-{
-    let (caller, rest) = number_then(after_word(line, b"load ")?)?;
-    let field = after_word(rest, b"one first %* ")?;
-    Some((caller, field))
 }

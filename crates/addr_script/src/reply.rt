@@ -3,7 +3,7 @@ ghost use Rattle.std.specs.Prelude.{◌≡◌};
 ghost use Rattle.addr_script.specs.Causes.{layer_word};
 ghost use Rattle.addr_script.specs.Replies.{settled_word, state_word};
 
-use addr_base::{Cause, Layer, OpId, Text};
+use addr_base::{BundleNo, Cause, Layer, OpId, Text};
 use addr_history::{BundleState, Next, OpStatus, Settled};
 use std::fmt;
 
@@ -35,6 +35,11 @@ pub enum Reply {
     /// A bundle's count, and where the bundle is.
     Counted(u32, BundleState),
     NoBundle,
+    /// How many bytes an asset has, and how they are shown.
+    Bytes(u64, Text),
+    NoAsset,
+    /// The bundle that doesn't hold what is read.
+    AbsentFrom(BundleNo),
 }
 
 impl fmt::Display for Reply {
@@ -74,6 +79,15 @@ impl fmt::Display for Reply {
                 write!(f, "count {count} {place}")
             }
             Reply::NoBundle => f.write_str("no-bundle"),
+            Reply::Bytes(length, content) => {
+                let shown = content.as_str();
+                write!(f, "bytes {length} {shown}")
+            }
+            Reply::NoAsset => f.write_str("no-asset"),
+            Reply::AbsentFrom(b) => {
+                let number = b.0;
+                write!(f, "absent {number}")
+            }
         }
     }
 }

@@ -1,13 +1,16 @@
 // A whole script. Lines are read from the front, and the first one that isn't in the grammar at its place ends the reading.
-ghost use Rattle.std.specs.Prelude.{◌≡◌, ◌≤◌, ◌+◌, ◌∷◌, [], ◌↔◌, ℕ, IsTrue, MatchOption, Some, length};
+ghost use Rattle.std.specs.Prelude.{◌≡◌, ◌<◌, ◌≤◌, ◌+◌, ◌∷◌, [], ◌↔◌, ℕ, List, IsTrue, MatchOption, IfOk, Some, length};
 ghost use Rattle.addr_fields.specs.Lines.{lines_of};
-ghost use Rattle.addr_script.specs.ScriptParts.{HasLimit, ReadsFrom};
+ghost use Rattle.addr_base.specs.declared.var.Var.{Var};
+ghost use Rattle.addr_script.specs.Commands.{set_line, IsSet};
+ghost use Rattle.addr_script.specs.ScriptParts.{HasLimit, HasSets, ReadsFrom};
 ghost use Rattle.addr_script.specs.Scripts.{IsLimit, ReadsScript, limit_lines};
 
 use crate::command::Command;
 use crate::error::ScriptErr;
 use crate::parser::parse_command;
-use addr_base::Items;
+use crate::set_line::parse_set;
+use addr_base::{Items, NoMemory, Var};
 use addr_fields::{next_line, number_after};
 use std::alloc::Global;
 
@@ -22,16 +25,23 @@ const MAX_LIMIT: u32 = 1_000_000;
 pub struct Script {
     /// The most events that the journal may have, where the first line says so.
     pub limit: Option<u32>,
+    /// The variables that it sets, in order.
+    pub vars: Items<Var>,
     pub commands: Items<Command>,
 }
 
-/// Reads the script that the bytes are, in one pass. It keeps no memory but the commands.
+/// Reads the script that the bytes are, in one pass. It keeps no memory but the variables and the commands.
 pub fn read_script(alloc: Global, bytes: &[u8]) -> Result<Script, ScriptErr>
     ensures { ReadsScript bytes.now result }
 {
     let (limit, rest) = first_limit(bytes);
-    match read_commands(alloc, rest, first_number(limit)) {
-        Ok(commands) => Ok(Script { limit, commands }),
+    let sets = read_sets(alloc, rest, first_number(limit))?;
+    match read_commands(alloc, sets.rest, sets.next) {
+        Ok(commands) => Ok(Script {
+            limit,
+            vars: sets.vars,
+            commands,
+        }),
         Err(e) => Err(e),
     }
 }
@@ -76,9 +86,52 @@ fn first_number(limit: Option<u32>) -> u32
     }
 }
 
+/// The variables that the first lines set, the bytes behind these lines, and the number of the line that begins there.
+#[derive(Drop)]
+struct Sets<'a> {
+    vars: Items<Var>,
+    rest: &'a [u8],
+    next: u32,
+}
+
+/// The variables that lines set of which the first has that number.
+fn read_sets(alloc: Global, bytes: &[u8], first: u32) -> Result<Sets<'_>, NoMemory>
+    requires { first ≤ 2 }
+    ensures { IfOk result (λ s. HasSets (lines_of bytes.now) first s.vars (lines_of s.rest.now) s.next) }
+{
+    let mut vars = Items::new(alloc);
+    let mut rest = bytes;
+    let mut next = first;
+    while let Some((var, after)) = next_set(alloc, rest, next)? {
+        vars.push(var)?;
+        next += 1;
+        rest = after;
+    }
+    Ok(Sets { vars, rest, next })
+}
+
+/// The variable that the line with that number sets, and the bytes behind the line. A line past the last has none.
+fn next_set(alloc: Global, bytes: &[u8], number: u32) -> Result<Option<(Var, &[u8])>, NoMemory>
+    ensures { IfOk result (λ found. MatchOption found
+        (number ≤ 100000 → (v : Var) (more : List (List ℕ)) → IsSet v → lines_of bytes.now ≡ set_line v ∷ more → ⊥)
+        (λ p. IsSet p.0 × (lines_of bytes.now ≡ set_line p.0 ∷ lines_of p.1.now) × (number ≤ 100000)
+        × (length p.1.now < length bytes.now))) }
+{
+    if MAX_LINES < number {
+        return Ok(None);
+    }
+    let Some((line, after)) = next_line(bytes) else {
+        return Ok(None);
+    };
+    match parse_set(alloc, line)? {
+        Some(var) => Ok(Some((var, after))),
+        None => Ok(None),
+    }
+}
+
 /// The commands of the lines of which the first has that number.
 fn read_commands(alloc: Global, bytes: &[u8], first: u32) -> Result<Items<Command>, ScriptErr>
-    requires few { first ≤ 2 }
+    requires few { first ≤ 100001 }
     ensures { ReadsFrom bytes.now first result }
 {
     let mut commands = Items::new(alloc);

@@ -42,7 +42,7 @@ pub const ROWS: [(&str, u32); 9] = [
     ),
 ];
 
-pub const SCRIPTS: [(&str, u32); 32] = [
+pub const SCRIPTS: [(&str, u32); 38] = [
     ("\n", 1),
     ("fly\n", 1),
     ("close\n\nfly\n", 2),
@@ -70,17 +70,24 @@ pub const SCRIPTS: [(&str, u32); 32] = [
     ("load 0 one first %* ,tree\n", 1),
     ("load 0 one first %* %74ree\n", 1),
     ("load 0 one first %* %-\n", 1),
-    ("load 0 one first Mesh tree\n", 1),
-    ("load 0 all union %* tree\n", 1),
+    ("load 0 some first %* tree\n", 1),
+    ("load 0 one last %* tree\n", 1),
+    ("load 0 one first %? tree\n", 1),
+    ("load 0 one first tree\n", 1),
+    ("read 0\n", 1),
+    ("set a\n", 1),
+    ("set a b c\n", 1),
+    ("set a b\nclose\nset a b\n", 3),
     ("fail 1 0 memory\n", 1),
     ("fail 1 0 refused:65536\n", 1),
     ("fail 1 0 fault:18446744073709551616\n", 1),
 ];
 
 /// Scripts that are read, with their replies.
-pub const SOUND_SCRIPTS: [(&str, &str); 4] = [
+pub const SOUND_SCRIPTS: [(&str, &str); 5] = [
     ("", ""),
     ("limit 1", ""),
     ("limit 1000000\ncount 0", "count 0 absent\n"),
     ("count 0", "count 0 absent\n"),
+    ("limit 9\nset a b\nset % %20\ncount 0\n", "count 0 absent\n"),
 ];

@@ -24,3 +24,65 @@ pub const SCRIPTS: [&str; 7] = [
     // shared by two operations
     "load tree = op 0; load tree = op 1; take 1 = bundle 0; done 1 0 = kept; release 0 0 = released; count 0 = count 1 resident; release 0 1 = released; count 0 = count 0 absent; take 1 = idle; close = close; take 1 = end",
 ];
+
+/// Scripts on merge modes, types and reading, each with its replies.
+pub const READINGS: [(&str, &str); 5] = [
+    (
+        "load 0 one first %* green
+load 0 all union %* nope,green
+load 0 one first %* nope,bush
+load 0 all inter %* green,nope
+load 0 all inter %* tree,bush
+load 0 all union Sprite green
+read 1 3
+read 1 2
+",
+        "op 0\nop 1\nop 2\nno-location nope\nno-location %-\nno-location green\nno-asset\npending\n",
+    ),
+    (
+        "load 0 one first %* tree
+load 0 one first %* tree
+take 1
+done 1 0
+release 0 0
+read 1 0
+count 0
+release 0 1
+read 1 0
+count 0
+take 1
+close
+take 1
+",
+        "op 0\nop 1\nbundle 0\nkept\nreleased\nbytes 16 00000000000000000000000000000001\ncount 1 resident\nreleased\nno-handle\ncount 0 absent\nidle\nclose\nend\n",
+    ),
+    (
+        "load 0 all first Mesh green
+take 1
+fail 1 0 fault:7
+read 0 0
+",
+        "op 0\nbundle 0\nfailed\nfailed 0 fault:7\n",
+    ),
+    (
+        "load 0 all union %* green,bush
+take 1
+take 1
+done 1 0
+done 1 1
+read 0 1
+read 0 2
+read 0 3
+",
+        "op 0\nbundle 0\nbundle 1\nkept\nkept\nbytes 16 00000000000000000000000000000002\nbytes 16 00000000000000000000000000000003\nno-asset\n",
+    ),
+    (
+        "load 0 all inter Mesh green,tree
+take 1
+done 1 0
+read 0 0
+read 0 1
+",
+        "op 0\nbundle 0\nkept\nbytes 16 00000000000000000000000000000001\nno-asset\n",
+    ),
+];

@@ -1,5 +1,5 @@
 -- How far one operation is, as the machine keeps it, and what an event does to it; and the operations that wait for a bundle.
-use Rattle.std.specs.Prelude.{ℕ, ◌==◌, ◌<◌, ◌≡◌, ◌-◌, Bool, true, List, [], ◌∷◌, ◌++◌, map, slice_get, unwrap_or, Some, is_some, if◌then◌else◌}
+use Rattle.std.specs.Prelude.{ℕ, ◌==◌, ◌<◌, ◌≡◌, ◌-◌, Bool, true, List, [], ◌∷◌, ◌++◌, map, slice_get, Some, is_some, if◌then◌else◌}
 use Rattle.std.specs.List.{count_by}
 use Rattle.addr_base.specs.declared.ids.BundleNo.{BundleNo}
 use Rattle.addr_base.specs.declared.ids.OpId.{OpId}
@@ -7,10 +7,6 @@ use Rattle.addr_history.specs.declared.answers.OpStatus.{OpStatus}
 use Rattle.addr_history.specs.Events.{is_in}
 use Rattle.addr_core.specs.declared.courses.Course.{Course}
 use Rattle.addr_core.specs.within.Changes.{change}
-
--- the bundles that are kept for an operation
-abbrev pub needs_at : List (List BundleNo) → OpId → List BundleNo
-needs_at needs op = unwrap_or (slice_get needs op.0) []
 
 -- a course after an event: one of its bundles came; one failed; it was released
 abbrev pub woken : Course → Course

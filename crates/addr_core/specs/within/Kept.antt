@@ -20,6 +20,8 @@ use Rattle.addr_core.specs.declared.courses.Course.{Course}
 use Rattle.addr_core.specs.declared.slots.Slot.{Slot}
 use Rattle.addr_core.specs.within.Courses.{times_in, Waiting, waiting_lists}
 use Rattle.addr_core.specs.within.Slots.{is_by}
+use Rattle.addr_core.specs.within.Wanting.{wanted_of_op}
+use Rattle.addr_core.specs.declared.wanted.Wanted.{Wanted}
 
 -- the event leaves the same bundles resident: it is a Take, a Fail, the Close, or a Done of a bundle whose count is zero
 abbrev pub IsQuiet : Rows → List Event → Event → Type 0
@@ -60,10 +62,10 @@ pub record AreSlots (rows : Rows) (h : List Event) (slots : List Slot) : Type 0 
   pub many : length slots ≡ length rows.bundles
   pub each : (b : BundleNo) (s : Slot) → slice_get slots b.0 ≡ Some s → IsSlot rows h b s
 
--- for each operation that isn't released, the bundles that it needs
-pub record AreNeeds (rows : Rows) (h : List Event) (needs : List (List BundleNo)) : Type 0 where
-  pub many : length needs ≡ loads_of h
-  pub each : (op : OpId) (bs : List BundleNo) → slice_get needs op.0 ≡ Some bs → is_unreleased h op ≡ true → bs ≡ needs_of_op rows h op
+-- for each operation that isn't released, the rows that it found and the bundles that they need
+pub record AreWanted (rows : Rows) (h : List Event) (wanted : List Wanted) : Type 0 where
+  pub many : length wanted ≡ loads_of h
+  pub each : (op : OpId) (w : Wanted) → slice_get wanted op.0 ≡ Some w → is_unreleased h op ≡ true → w ≡ wanted_of_op rows h op
 
 -- an operation's first failure, how many of its bundles aren't resident, and whether one of them is such a bundle
 abbrev pub failure_of : Rows → List Event → OpId → Option OpStatus
@@ -86,8 +88,8 @@ pub record AreCourses (rows : Rows) (h : List Event) (courses : List Course) (wa
   pub known : (b : BundleNo) (ws : List ℕ) → slice_get waits b.0 ≡ Some ws → (n : ℕ) → loads_of h ≤ n → times_in n ws ≡ 0
 
 -- what is kept says what the history says
-pub record Holds (rows : Rows) (h : List Event) (needs : List (List BundleNo)) (slots : List Slot) (courses : List Course) (lists : List (List ℕ)) (order : Ordered) (fetched opens : ℕ) (closed : Bool) : Type 0 where
-  pub are_needs : AreNeeds rows h needs
+pub record Holds (rows : Rows) (h : List Event) (wanted : List Wanted) (slots : List Slot) (courses : List Course) (lists : List (List ℕ)) (order : Ordered) (fetched opens : ℕ) (closed : Bool) : Type 0 where
+  pub are_wanted : AreWanted rows h wanted
   pub are_slots : AreSlots rows h slots
   pub are_courses : AreCourses rows h courses lists
   pub all_lists : length lists ≡ length rows.bundles
@@ -106,11 +108,11 @@ pub record IsNow (rows : Rows) (limit : ℕ) (h : List Event) (slots : List Slot
   pub now_closed : closed ≡ is_closed h
 
 -- there is room for what each operation that the journal can have adds
-abbrev pub HasRooms : ℕ → Vec (List BundleNo) Global → Vec Course Global → Type 0
-HasRooms limit needs courses = (limit ≤ vec_capacity needs) × (limit ≤ vec_capacity courses)
+abbrev pub HasRooms : ℕ → Vec Wanted Global → Vec Course Global → Type 0
+HasRooms limit wanted courses = (limit ≤ vec_capacity wanted) × (limit ≤ vec_capacity courses)
 
 -- what a core keeps
-pub record IsCore {I : Type 0} (fits : I → ℕ → Digest → Type 0) (rows : Rows) (limit : ℕ) (events : Vec Event Global) (needs : Vec (List BundleNo) Global) (images : Vec (Option I) Global) (slots : Vec Slot Global) (courses : Vec Course Global) (waits : Vec Waiting Global) (order : Ordered) (fetched opens : ℕ) (closed : Bool) : Type 0 where
+pub record IsCore {I : Type 0} (fits : I → ℕ → Digest → Type 0) (rows : Rows) (limit : ℕ) (events : Vec Event Global) (wanted : Vec Wanted Global) (images : Vec (Option I) Global) (slots : Vec Slot Global) (courses : Vec Course Global) (waits : Vec Waiting Global) (order : Ordered) (fetched opens : ℕ) (closed : Bool) : Type 0 where
   pub journal : IsJournal fits rows limit events images
-  pub holds : Holds rows events.items needs.items slots.items courses.items (waiting_lists waits.items) order fetched opens closed
-  pub rooms : HasRooms limit needs courses
+  pub holds : Holds rows events.items wanted.items slots.items courses.items (waiting_lists waits.items) order fetched opens closed
+  pub rooms : HasRooms limit wanted courses

@@ -16,11 +16,11 @@ pub invariant_of-self : goal.invariant_of-self
 invariant_of-self g c =
     let is = rw (← c.self.view_is) at c.requires in
     let answer = close_answer c.self.inside.locator c.self.inside.limit c.self.inside.events.items is in
-    make_core g.I.Image.fits c.self.inside.locator c.self.inside.limit c.push_within.new.items c.self.inside.needs c.self.inside.images c.self.inside.slots c.self.inside.courses c.self.inside.waits c.self.inside.queue c.self.inside.fetched c.self.inside.opened true
+    make_core g.I.Image.fits c.self.inside.locator c.self.inside.limit c.push_within.new.items c.self.inside.wanted c.self.inside.images c.self.inside.slots c.self.inside.courses c.self.inside.waits c.self.inside.queue c.self.inside.fetched c.self.inside.opened true
     (journal_record g.I.Image.fits c.self.inside.locator c.self.inside.limit c.self.inside.events c.self.inside.images c.self.invariant.journal Close answer tt c.push_within.new.items c.push_within.ensures.items c.push_within.ensures.len c.push_within.ensures.room)
-    (c.self.inside.events.items ++ Close ∷ []) c.push_within.ensures.items c.self.inside.needs.items refl
+    (c.self.inside.events.items ++ Close ∷ []) c.push_within.ensures.items c.self.inside.wanted.items refl
     c.self.inside.slots.items refl c.self.inside.courses.items refl (waiting_lists c.self.inside.waits.items) refl c.self.inside.queue refl
-    (holds_close c.self.inside.locator c.self.inside.limit c.self.inside.events.items c.self.inside.needs.items c.self.inside.slots.items c.self.inside.courses.items (waiting_lists c.self.inside.waits.items) c.self.inside.queue c.self.inside.fetched c.self.inside.opened c.self.inside.closed c.self.invariant.holds (extend c.self.inside.locator c.self.inside.limit c.self.inside.events.items Close c.self.invariant.journal.known.legal answer))
+    (holds_close c.self.inside.locator c.self.inside.limit c.self.inside.events.items c.self.inside.wanted.items c.self.inside.slots.items c.self.inside.courses.items (waiting_lists c.self.inside.waits.items) c.self.inside.queue c.self.inside.fetched c.self.inside.opened c.self.inside.closed c.self.invariant.holds (extend c.self.inside.locator c.self.inside.limit c.self.inside.events.items Close c.self.invariant.journal.known.legal answer))
     c.self.invariant.rooms
 
 pub returns : goal.returns

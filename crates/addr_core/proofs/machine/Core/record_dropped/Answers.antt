@@ -19,7 +19,7 @@ push_within-requires g c =
 pub overflow_sub-self : goal.overflow_sub-self
 overflow_sub-self g c =
     let by = rw (← c.self.view_is) at c.requires.fetched in let none = rw (← c.self.view_is) at c.requires.counted in
-    fetched_pos c.self.inside.locator c.self.inside.limit c.self.inside.events.items c.self.inside.needs.items c.self.inside.slots.items c.self.inside.courses.items (waiting_lists c.self.inside.waits.items) c.self.inside.queue c.self.inside.fetched c.self.inside.opened c.self.inside.closed c.self.invariant.holds c.self.invariant.journal.known.sound c.self.invariant.journal.known.legal c.args.b c.args.worker by
+    fetched_pos c.self.inside.locator c.self.inside.limit c.self.inside.events.items c.self.inside.wanted.items c.self.inside.slots.items c.self.inside.courses.items (waiting_lists c.self.inside.waits.items) c.self.inside.queue c.self.inside.fetched c.self.inside.opened c.self.inside.closed c.self.invariant.holds c.self.invariant.journal.known.sound c.self.invariant.journal.known.legal c.args.b c.args.worker by
 
 pub invariant_of-self : goal.invariant_of-self
 invariant_of-self g c =
@@ -28,11 +28,11 @@ invariant_of-self g c =
     let legal = extend c.self.inside.locator c.self.inside.limit c.self.inside.events.items (Done c.args.b c.args.worker) c.self.invariant.journal.known.legal answer in
     let slots : (with_items c.self.inside.slots c.end_slot.new.slots).items ≡ change (ended false) c.args.b.0 c.self.inside.slots.items =
     with_items_is c.self.inside.slots c.end_slot.new.slots (c.end_slot.auto.slots ∙ c.as_mut_slice.ensures.len) ∙ c.end_slot.ensures ∙ ap (change (ended false) c.args.b.0) c.as_mut_slice.ensures.value in
-    make_core g.I.Image.fits c.self.inside.locator c.self.inside.limit c.push_within.new.items c.self.inside.needs c.self.inside.images (with_items c.self.inside.slots c.end_slot.new.slots) c.self.inside.courses c.self.inside.waits c.self.inside.queue (c.self.inside.fetched - 1) c.self.inside.opened c.self.inside.closed
+    make_core g.I.Image.fits c.self.inside.locator c.self.inside.limit c.push_within.new.items c.self.inside.wanted c.self.inside.images (with_items c.self.inside.slots c.end_slot.new.slots) c.self.inside.courses c.self.inside.waits c.self.inside.queue (c.self.inside.fetched - 1) c.self.inside.opened c.self.inside.closed
     (journal_record g.I.Image.fits c.self.inside.locator c.self.inside.limit c.self.inside.events c.self.inside.images c.self.invariant.journal (Done c.args.b c.args.worker) answer none c.push_within.new.items c.push_within.ensures.items c.push_within.ensures.len c.push_within.ensures.room)
-    (c.self.inside.events.items ++ Done c.args.b c.args.worker ∷ []) c.push_within.ensures.items c.self.inside.needs.items refl
+    (c.self.inside.events.items ++ Done c.args.b c.args.worker ∷ []) c.push_within.ensures.items c.self.inside.wanted.items refl
     (change (ended false) c.args.b.0 c.self.inside.slots.items) slots c.self.inside.courses.items refl (waiting_lists c.self.inside.waits.items) refl c.self.inside.queue refl
-    (holds_dropped c.self.inside.locator c.self.inside.limit c.self.inside.events.items c.self.inside.needs.items c.self.inside.slots.items c.self.inside.courses.items (waiting_lists c.self.inside.waits.items) c.self.inside.queue c.self.inside.fetched c.self.inside.opened c.self.inside.closed c.self.invariant.holds c.self.invariant.journal.known.sound c.args.b c.args.worker legal none)
+    (holds_dropped c.self.inside.locator c.self.inside.limit c.self.inside.events.items c.self.inside.wanted.items c.self.inside.slots.items c.self.inside.courses.items (waiting_lists c.self.inside.waits.items) c.self.inside.queue c.self.inside.fetched c.self.inside.opened c.self.inside.closed c.self.invariant.holds c.self.invariant.journal.known.sound c.args.b c.args.worker legal none)
     c.self.invariant.rooms
 
 pub returns : goal.returns

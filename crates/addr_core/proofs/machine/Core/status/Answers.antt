@@ -4,7 +4,7 @@ use Rattle.addr_core.proofs.Answering.{status_some, status_none}
 use Rattle.addr_core.proofs.machine.Core.status.Goals as goal
 
 pub returns-in-Some : goal.returns-in-Some
-returns-in-Some g c = rw (← c.self.view_is) (c.status.ensures ∙ status_some c.self.inside.locator c.self.inside.limit c.self.inside.events.items c.self.inside.needs.items c.self.inside.slots.items c.self.inside.courses.items (waiting_lists c.self.inside.waits.items) c.self.inside.queue c.self.inside.fetched c.self.inside.opened c.self.inside.closed c.self.invariant.holds c.self.invariant.journal.known.legal c.args.op c.in-Some.course (sym (c.in-Some.ensures ∙ ap (λ l. slice_get l c.args.op.0) c.as_slice.ensures.value)))
+returns-in-Some g c = rw (← c.self.view_is) (c.status.ensures ∙ status_some c.self.inside.locator c.self.inside.limit c.self.inside.events.items c.self.inside.wanted.items c.self.inside.slots.items c.self.inside.courses.items (waiting_lists c.self.inside.waits.items) c.self.inside.queue c.self.inside.fetched c.self.inside.opened c.self.inside.closed c.self.invariant.holds c.self.invariant.journal.known.legal c.args.op c.in-Some.course (sym (c.in-Some.ensures ∙ ap (λ l. slice_get l c.args.op.0) c.as_slice.ensures.value)))
 
 pub returns-in-None : goal.returns-in-None
-returns-in-None g c = rw (← c.self.view_is) (status_none c.self.inside.locator c.self.inside.limit c.self.inside.events.items c.self.inside.needs.items c.self.inside.slots.items c.self.inside.courses.items (waiting_lists c.self.inside.waits.items) c.self.inside.queue c.self.inside.fetched c.self.inside.opened c.self.inside.closed c.self.invariant.holds c.self.invariant.journal.known.legal c.args.op (sym (c.in-None.ensures ∙ ap (λ l. slice_get l c.args.op.0) c.as_slice.ensures.value)))
+returns-in-None g c = rw (← c.self.view_is) (status_none c.self.inside.locator c.self.inside.limit c.self.inside.events.items c.self.inside.wanted.items c.self.inside.slots.items c.self.inside.courses.items (waiting_lists c.self.inside.waits.items) c.self.inside.queue c.self.inside.fetched c.self.inside.opened c.self.inside.closed c.self.invariant.holds c.self.invariant.journal.known.legal c.args.op (sym (c.in-None.ensures ∙ ap (λ l. slice_get l c.args.op.0) c.as_slice.ensures.value)))

@@ -1,0 +1,25 @@
+-- What the parts of a read find in the images that are kept.
+use Rattle.std.specs.Prelude.{ℕ, ◌≡◌, List, Option, Some, None, Result, Ok, Err, slice_get}
+use Rattle.addr_base.specs.Images.{Object}
+use Rattle.addr_base.specs.declared.ids.BundleNo.{BundleNo}
+use Rattle.addr_base.specs.declared.memory.NoMemory.{NoMemory}
+use Rattle.addr_locate.specs.declared.rows.AssetRow.{AssetRow}
+use Rattle.addr_history.specs.Reading.{Holds}
+use Rattle.addr_history.specs.declared.reading.ReadErr.{ReadErr}
+use Rattle.addr_history.specs.declared.reading.ReadErr.TheVariants.{NoHandle, NoAsset, Pending, Failed, Absent, NoMemory as WantOfMemory}
+
+-- the bytes of the object that a bundle holds under an id; memory is wanted only where it holds one
+abbrev pub FindsBytes : (BundleNo → List ℕ → Option Object) → BundleNo → List ℕ → Result (Option (List ℕ)) NoMemory → Type 0
+FindsBytes objects b id (Ok (Some bytes)) = (o : Object) × Holds objects b id o × (bytes ≡ o.bytes)
+FindsBytes objects b id (Ok None) = (o : Object) → Holds objects b id o → ⊥
+FindsBytes objects b id (Err none) = (o : Object) × Holds objects b id o
+
+-- the bytes of an asset row's object in its first dependency, which is named where it holds none
+abbrev pub ReadsAsset : (BundleNo → List ℕ → Option Object) → AssetRow → Result (List ℕ) ReadErr → Type 0
+ReadsAsset objects a (Ok bytes) = (b : BundleNo) × (slice_get a.deps 0 ≡ Some b) × (o : Object) × Holds objects b a.id o × (bytes ≡ o.bytes)
+ReadsAsset objects a (Err (Absent b)) = (slice_get a.deps 0 ≡ Some b) × ((o : Object) → Holds objects b a.id o → ⊥)
+ReadsAsset objects a (Err WantOfMemory) = (b : BundleNo) × (slice_get a.deps 0 ≡ Some b) × ((o : Object) × Holds objects b a.id o)
+ReadsAsset objects a (Err NoHandle) = ⊥
+ReadsAsset objects a (Err NoAsset) = ⊥
+ReadsAsset objects a (Err Pending) = ⊥
+ReadsAsset objects a (Err (Failed b cause)) = ⊥
