@@ -1,5 +1,5 @@
 -- What a read is answered, from what is kept.
-use Rattle.std.proofs.Common.{◌≡◌, ◌⊎◌, inl, inr, ℕ, ◌+◌, ◌<◌, zero, suc, Bool, true, false, ◌&&◌, ◌||◌, not, cond, eqb, ltb, take, List, [], ◌∷◌, length, Option, Some, None, is_some, Result, Ok, Err, slice_get, get_or, refl, sym, ◌∙◌, ap, arith, find, if◌then◌else◌}
+use Rattle.std.proofs.Common.{◌≡◌, ◌⊎◌, inl, inr, ℕ, ◌+◌, ◌<◌, zero, suc, Bool, true, false, ◌&&◌, ◌||◌, cond, eqb, ltb, take, List, [], ◌∷◌, length, Option, Some, None, Result, Ok, Err, slice_get, get_or, refl, sym, ◌∙◌, ap, arith, find, if◌then◌else◌}
 use Rattle.std.proofs.lemmas.Bool.{false≢true, cases_Bool, cases_eq, and_parts, eq-eqb, ne_eqb, ltb-true}
 use Rattle.std.proofs.lemmas.List.Folds.{list_any-append}
 use Rattle.std.proofs.lemmas.Option.{slice_get_read}

@@ -1,4 +1,3 @@
-use Rattle.std.proofs.Common.{◌≡◌, ◌∙◌, ap, sym}
 use Rattle.addr_objects.specs.Objects.{objects_in}
 use Rattle.addr_objects.proofs.Filled.{filled}
 use Rattle.addr_objects.proofs.reading.find_bytes.Goals as goal
