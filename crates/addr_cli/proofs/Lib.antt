@@ -3,6 +3,4 @@ pub mod OnceLemmas
 pub mod OutcomeLemmas
 pub mod ListingLemmas
 pub mod PlanningLemmas
-pub mod PlayLemmas
-pub mod ReadLemmas
 pub mod ServingLemmas

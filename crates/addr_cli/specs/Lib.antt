@@ -2,9 +2,7 @@ pub mod Inspecting
 pub mod Listing
 pub mod Outcome
 pub mod Planning
-pub mod Reading
 pub mod Refusals
 pub mod Requests
 pub mod Serving
-pub mod SimText
 pub mod Words

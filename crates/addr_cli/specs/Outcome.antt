@@ -32,7 +32,7 @@ use Rattle.addr_locate.specs.declared.error.RowsErr.TheVariants.{Line as RowsLin
 use Rattle.addr_script.specs.Scripts.{ReadsScript}
 use Rattle.addr_script.specs.declared.script.Script.{Script}
 use Rattle.addr_script.specs.declared.error.ScriptErr.TheVariants.{Line as ScriptLine}
-use Rattle.addr_cli.specs.SimText.{SimText}
+use Rattle.addr_simulate.specs.SimText.{limit_of, SimText}
 use Rattle.addr_cli.specs.Refusals.{ended_status, ended_text}
 use Rattle.addr_cli.specs.Words.{Command, simulate, list_rows, inspect, plan, AsksFor, IsCommandLine, IsJsonName}
 use Rattle.addr_cli.specs.declared.refusal.Refusal.{Refusal}
@@ -64,10 +64,6 @@ IsBadCatalogue files name n = (bytes : List ℕ) × (file_at name files ≡ Some
 
 abbrev pub IsBadPlain : List MemFile → List ℕ → ℕ → Type 0
 IsBadPlain files name n = (bytes : List ℕ) × (file_at name files ≡ Some bytes) × ReadsRows bytes (Err (RowsLine n))
-
--- the most events of a script without a limit
-abbrev pub limit_of : Script → ℕ
-limit_of script = unwrap_or script.limit 100000
 
 -- what `simulate` ends with over these files: the replies to the script over the rows, else the first fault, of the rows before the script
 abbrev pub Simulates : List MemFile → List ℕ → List ℕ → Result (List ℕ) Refusal → Type 0

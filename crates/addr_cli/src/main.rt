@@ -15,8 +15,6 @@ mod refusal;
 mod report;
 mod runner;
 mod serving;
-mod sim_image;
-mod simulator;
 mod status;
 #[cfg(test)]
 mod tests;

@@ -13,10 +13,10 @@ use crate::listing::{read_rows_file, rows_text};
 use crate::planning::plan_folder;
 use crate::refusal::Refusal;
 use crate::report::report;
-use crate::simulator::simulate;
 use crate::status::Status;
 use addr_base::{Depot, Sink, Text};
 use addr_script::read_script;
+use addr_simulate::simulate;
 use std::alloc::Global;
 
 /// Runs the command that the words are, over the depot's files, and prints to the sink by one put. Every file stays.

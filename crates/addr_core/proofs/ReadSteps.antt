@@ -1,5 +1,5 @@
 -- What a read is answered, from what is kept.
-use Rattle.std.proofs.Common.{◌≡◌, ◌⊎◌, inl, inr, ℕ, ◌+◌, ◌<◌, zero, suc, Bool, true, false, ◌&&◌, ◌||◌, not, cond, eqb, ltb, take, List, [], ◌∷◌, length, Option, Some, None, is_some, Result, Ok, Err, slice_get, get_or, refl, sym, ◌∙◌, ap, arith, find, if◌then◌else◌}
+use Rattle.std.proofs.Common.{◌≡◌, ◌⊎◌, inl, inr, ℕ, ◌+◌, ◌<◌, zero, suc, Bool, true, false, ◌&&◌, ◌||◌, cond, eqb, ltb, take, List, [], ◌∷◌, length, Option, Some, None, Result, Ok, Err, slice_get, get_or, refl, sym, ◌∙◌, ap, arith, find, if◌then◌else◌}
 use Rattle.std.proofs.lemmas.Bool.{false≢true, cases_Bool, cases_eq, and_parts, eq-eqb, ne_eqb, ltb-true}
 use Rattle.std.proofs.lemmas.List.Folds.{list_any-append}
 use Rattle.std.proofs.lemmas.Option.{slice_get_read}
@@ -33,7 +33,8 @@ use Rattle.addr_history.specs.declared.reading.ReadErr.TheVariants.{NoHandle, No
 use Rattle.addr_core.specs.Machine.{HasImages, ReadyHave}
 use Rattle.addr_core.specs.declared.wanted.Wanted.{Wanted}
 use Rattle.addr_core.specs.within.Kept.{AreWanted}
-use Rattle.addr_core.specs.within.Lending.{ReadsAsset}
+use Rattle.addr_objects.specs.Objects.{ReadsAsset}
+use Rattle.addr_objects.proofs.Filled.{filled}
 use Rattle.addr_core.specs.within.Wanting.{wanted_at}
 use Rattle.addr_core.proofs.Advance.{machine, images_length}
 use Rattle.addr_core.proofs.Changing.{slice_there}
@@ -236,10 +237,6 @@ ready_resident rows h op is = by (is_unreleased h op) is
     by : (t : Bool) → (let r : Result OpStatus NoHandleErr = if t then Ok (status_of rows h op) else no_status in r) ≡ Ok status.Ready → list_all (is_resident rows h) (needs_of_op rows h op) ≡ true
     by true e = among (first_failure (needs_of_op rows h op) (since_load op h)) (no_ready (needs_of_op rows h op) (since_load op h)) (list_all (is_resident rows h) (needs_of_op rows h op)) (cc)
     by false e = cc
-
-pub filled : {I : Type 0} (o : Option I) → is_some o ≡ true → (image : I) × (o ≡ Some image)
-filled None is = absurd (false≢true is)
-filled (Some image) is = (image, refl)
 
 pub ready_held : {I : Type 0} (fits : I → ℕ → Digest → Type 0) (rows : Rows) (limit : ℕ) (h : List Event) (images : List (Option I)) → Sound rows → Legal rows limit h → HasImages (machine fits rows limit h images) → ReadyHave (machine fits rows limit h images)
 unfolding ReadyHave

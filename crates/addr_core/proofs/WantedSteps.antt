@@ -10,8 +10,8 @@ use Rattle.addr_locate.specs.Rows.{Rows}
 use Rattle.addr_history.specs.declared.ask.Ask.{Ask}
 use Rattle.addr_history.specs.declared.event.Event.{Event}
 use Rattle.addr_history.specs.declared.event.Event.TheVariants.{Load, Release, Take, Done, Fail, Close}
-use Rattle.addr_history.specs.Events.{is_load, is_load_of, needs_of, rows_of_ask}
-use Rattle.addr_history.specs.Counts.{has_release, is_unreleased, needs_of_op, rows_of_op, loads_of}
+use Rattle.addr_history.specs.Events.{is_load, is_load_of}
+use Rattle.addr_history.specs.Counts.{has_release, is_unreleased, loads_of}
 use Rattle.addr_history.specs.Legal.{IsAnswer, Legal}
 use Rattle.addr_history.proofs.Counting.{one_if}
 use Rattle.addr_history.proofs.Legality.{load_facts, unreleased_parts, has_release_push, loads_push, load_below, no_load_past}

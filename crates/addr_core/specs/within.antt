@@ -1,7 +1,6 @@
 pub mod Changes
 pub mod Courses
 pub mod Kept
-pub mod Lending
 pub mod Prepare
 pub mod Slots
 pub mod Wanting

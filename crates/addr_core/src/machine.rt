@@ -17,7 +17,7 @@ use crate::images::{clear_each, put};
 use crate::now::Now;
 use crate::prepare::prepare;
 use crate::queueing::{join_each, leave_each};
-use crate::reading::{read_asset, ready_row};
+use crate::reading::ready_row;
 use crate::slots::{
     Slot, end_slot, is_counted, is_taken_by, lacking, let_go_each, slot_at, take_in_each, take_slot,
 };
@@ -29,6 +29,7 @@ use addr_history::{
     Ask, BundleState, Event, LoadErr, Next, NoHandle, NotTaken, OpStatus, ReadErr, Settled,
 };
 use addr_locate::Locator;
+use addr_objects::read_asset;
 use addr_queue::Queue;
 use std::alloc::Global;
 use std::marker::Model;

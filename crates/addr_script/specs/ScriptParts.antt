@@ -1,5 +1,5 @@
 -- The parts of a script: its limit, the lines of its commands, and where the reading ends; and the parts of a load's line.
-use Rattle.std.specs.Prelude.{ℕ, ◌≡◌, ◌<◌, ◌≤◌, ◌+◌, ◌^◌, Bool, List, ◌∷◌, ◌++◌, Option, Some, None, Result, Ok, Err, IfSome, length, map, codes, decimal}
+use Rattle.std.specs.Prelude.{ℕ, ◌≡◌, ◌≤◌, ◌+◌, Bool, List, ◌∷◌, ◌++◌, Option, Some, None, Result, Ok, Err, IfSome, length, map, codes}
 use Rattle.std.specs.List.{AllByRecursion}
 use Rattle.addr_base.specs.declared.var.Var.{Var}
 use Rattle.addr_locate.specs.declared.rows.Merge.{Merge}

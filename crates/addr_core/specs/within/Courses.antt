@@ -2,7 +2,6 @@
 use Rattle.std.specs.Prelude.{ℕ, ◌==◌, ◌<◌, ◌≡◌, ◌-◌, Bool, true, List, [], ◌∷◌, ◌++◌, map, slice_get, Some, is_some, if◌then◌else◌}
 use Rattle.std.specs.List.{count_by}
 use Rattle.addr_base.specs.declared.ids.BundleNo.{BundleNo}
-use Rattle.addr_base.specs.declared.ids.OpId.{OpId}
 use Rattle.addr_history.specs.declared.answers.OpStatus.{OpStatus}
 use Rattle.addr_history.specs.Events.{is_in}
 use Rattle.addr_core.specs.declared.courses.Course.{Course}

@@ -1,5 +1,5 @@
 use Rattle.std.proofs.Common.{◌∙◌, inl, sym}
-use Rattle.addr_core.specs.Machine.{objects_in}
+use Rattle.addr_objects.specs.Objects.{objects_in}
 use Rattle.addr_core.proofs.ReadSteps.{refused}
 use Rattle.addr_core.proofs.machine.Core.read.Goals as goal
 

@@ -1,5 +1,5 @@
 use Rattle.std.proofs.Common.{◌<◌, ap, arith, length}
-use Rattle.addr_core.specs.Machine.{objects_in}
+use Rattle.addr_objects.specs.Objects.{objects_in}
 use Rattle.addr_core.proofs.ReadSteps.{asset_there, home_there, read_answer, row_below}
 use Rattle.addr_core.proofs.machine.Core.read_row.Goals as goal
 

@@ -1,9 +1,0 @@
-use Rattle.std.proofs.Common.{◌≡◌, ◌∙◌, ap, sym}
-use Rattle.addr_core.specs.Machine.{objects_in}
-use Rattle.addr_core.proofs.ReadSteps.{filled}
-use Rattle.addr_core.proofs.reading.find_bytes.Goals as goal
-
-pub returns-in-Err : goal.returns-in-Err
-returns-in-Err g c =
-    let found = filled (objects_in g.I.Image.object_of c.args.images.now c.args.b c.in-Some.guid.0) c.in-Err.ensures.err in
-    (found.0, (c.in-Some.guid.0, c.in-Some.ensures.reads, found.1))
