@@ -1,0 +1,7 @@
+//! Releases: which files they have, what a key resolves to in them, and that a project's release shows what the project does.
+//!
+//! Promise: the calls are laws over `specs/Built.antt`, `specs/Puts.antt`, `specs/Resolve.antt`, `specs/Sound.antt` and
+//! `specs/Held.antt`; nothing runs.
+//! Units: numbers of bundles, entries and puts count from 0.
+//! Start: `specs/Resolve.antt`, then `specs/Built.antt` and `specs/Puts.antt`.
+#![tactic(auto)]
