@@ -45,7 +45,7 @@ use Rattle.addr_release.proofs.ImageLemmas.{AreOpened, image-at, image-item, jum
 use Rattle.addr_release.proofs.KeyLemmas.{zip-unmap}
 use Rattle.addr_release.proofs.NameLemmas.{release-once}
 use Rattle.addr_release.proofs.OpenedLemmas.{files-apart, same-ok}
-use Rattle.addr_release.proofs.OwnLemmas.{are-named}
+use Rattle.addr_release.proofs.OwnLemmas.{are-named, one-release}
 use Rattle.addr_release.proofs.PutLemmas.{after-there, once-agree}
 use Rattle.addr_release.proofs.ReleaseLemmas as release
 use Rattle.addr_release.proofs.SoundLemmas as sound
@@ -191,3 +191,11 @@ module _ (p : Project) (plan : Plan) (kept : IsKept p) (placed : IsPlaced p plan
 
   pub release-held : IsHeld new folder
   release-held = held-so p plan r placed own folder old new none after
+
+-- a second build has the same release, which is there
+pub release-again : (p : Project) → IsKept p → (r s : Release) (folder : List ℕ) (old new : List MemFile) → IsReleaseOf p r → IsReleaseOf p s → NoneTaken old folder r → IsAfter (puts_of folder r) old new
+    → NoneTaken new folder s × AreThere (puts_of folder s) new
+release-again p kept r s folder old new is was none after =
+    let named = are-named p r is in
+    subst (λ (t : Release). NoneTaken new folder t × AreThere (puts_of folder t) new) (one-release p kept r s is was)
+    (none-after folder r named (puts_of folder r) old new (λ f here. here) none after, after-there (puts_of folder r) old new (once-agree (puts_of folder r) (release-once folder r named)) after)

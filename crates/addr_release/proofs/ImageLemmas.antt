@@ -57,6 +57,12 @@ pub beside : {X Y : Type 0} (xs : List X) (ys : List Y) (k : ℕ) (x : X) → le
 beside xs [] k x same at = absurd (let within = slice_get_within xs k x at in omega arith)
 beside xs (y ∷ ys) k x same at = let within = slice_get_within xs k x at in (get_or (y ∷ ys) k y, slice_get-get_or (y ∷ ys) k y (omega arith))
 
+one-there : {X : Type 0} (xs : List X) (k : ℕ) (x y : X) → slice_get xs k ≡ Some x → slice_get xs k ≡ Some y → x ≡ y
+one-there xs k x y first second = same-some x y (sym first ∙ second)
+
+guid-through : (g : Guid) (a b : Asset) (h : Guid) → g ≡ a.guid → a ≡ b → b.guid ≡ h → g ≡ h
+guid-through g a b h first same last = first ∙ (ap (λ (x : Asset). x.guid) same ∙ last)
+
 module _ (p : Project) (plan : Plan) (assets : HasAssets p) (shared : IsShared p plan) where
   -- a member is an asset of the project
   numbered-asset : (n : ℕ) (g : Guid) → IsNumbered p n g → (asset : Asset) × Contains p.assets asset × (asset.guid ≡ g)
@@ -108,8 +114,8 @@ module _ (p : Project) (plan : Plan) (assets : HasAssets p) (shared : IsShared p
         let are = written q.bundle file.0.objects new (opened.objects q.bundle file.0 file.1) in
         let here = are.list.all at.0 (q.guid, (asset.0, at.1, asset.2), member) in
         let found = zip-here (IsImageOf p plan q.bundle) are.members file.0.objects at.0 are.images here in
-        let same : found.2.0 ≡ asset.0 = same-some found.2.0 asset.0 (sym found.2.1 ∙ at.1) in
-        (found.0, (file.0, file.1, found.1, found.2.2.guid ∙ ap (λ (a : Asset). a.guid) same ∙ asset.2))
+        let same : found.2.0 ≡ asset.0 = one-there p.assets at.0 found.2.0 asset.0 found.2.1 at.1 in
+        (found.0, (file.0, file.1, found.1, guid-through found.0.guid found.2.0 asset.0 q.guid found.2.2.guid same asset.2))
 
     pub jump-follows : (q s : Place) → fresh q.bundle → Member p plan q.bundle q.guid → Jumps files q s → Follows p plan q s
     jump-follows q s new member (o, holds, r, here, guid, leads) =

@@ -12,3 +12,4 @@ pub mod OpenedLemmas
 pub mod ReleaseLemmas
 pub mod SoundLemmas
 pub mod BuiltLemmas
+pub mod ProjectLemmas

@@ -52,7 +52,7 @@ take-at (suc k) (y ∷ xs) x here = by_case (Contains-cases y (take k xs) x here
 pub path-same : (folder a b : List ℕ) → path folder a ≡ path folder b → a ≡ b
 path-same folder a b e = append_cancel_left (codes "/") a b (append_cancel_left folder (codes "/" ++ a) (codes "/" ++ b) e)
 
-bytes-apart : (a b : ℕ) → a < b → a ≡ b → ⊥
+pub bytes-apart : (a b : ℕ) → a < b → a ≡ b → ⊥
 bytes-apart a b less same = omega (arith, less, same)
 
 sides-apart : (x y : List ℕ) → side_folder false ++ x ≡ side_folder true ++ y → ⊥

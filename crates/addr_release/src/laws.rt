@@ -2,11 +2,13 @@
 ghost use Rattle.std.specs.Prelude.{◌↔◌, ℕ, List};
 ghost use Rattle.addr_base.specs.declared.files.MemFile.{MemFile as File};
 ghost use Rattle.addr_layout.specs.Laws.{AtMostOne};
+ghost use Rattle.addr_pack.specs.BundleNames.{InternalNamesDiffer};
 ghost use Rattle.addr_pack.specs.Placement.{IsPlaced};
 ghost use Rattle.addr_project.specs.Reach.{Row, Shown};
 ghost use Rattle.addr_release.specs.Built.{IsReleaseOf, Release};
 ghost use Rattle.addr_release.specs.Held.{IsHeld};
 ghost use Rattle.addr_release.specs.Images.{NamesApart};
+ghost use Rattle.addr_release.specs.Laws.{AreThere};
 ghost use Rattle.addr_release.specs.Puts.{IsAfter, NoneTaken, puts_of};
 ghost use Rattle.addr_release.specs.Resolve.{Resolve};
 ghost use Rattle.addr_release.specs.Sound.{HasSoundRelease};
@@ -20,6 +22,21 @@ pub fn release_is_one(project: &Project)
 {
     project.kept();
 }
+
+/// So a second build finds no name taken and each of its files there: it puts nothing.
+pub fn release_again(project: &Project)
+    ensures { (r s : Release) (folder : List ℕ) (old new : List File) → IsReleaseOf project.now r
+        → IsReleaseOf project.now s → NoneTaken old folder r → IsAfter (puts_of folder r) old new
+        → NoneTaken new folder s × AreThere (puts_of folder s) new }
+{
+    project.kept();
+}
+
+/// Where different names have different digests, internal names tell bundles apart, and only there.
+pub fn names_apart(project: &Project, plan: &Plan)
+    requires { IsPlaced project.now plan.now }
+    ensures { InternalNamesDiffer plan.now ↔ NamesApart plan.now }
+{}
 
 /// After the puts of a project's release each key resolves to exactly what the project shows under it.
 pub fn release_shows(project: &Project, plan: &Plan)

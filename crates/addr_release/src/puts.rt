@@ -8,6 +8,7 @@ ghost use Rattle.addr_release.specs.Laws.{AreFree, AreNamed, AreThere, IsContent
 ghost use Rattle.addr_release.specs.Laws.{with_catalogue};
 ghost use Rattle.addr_release.specs.Puts.{IsAfter, NoneTaken, Test, content_puts, puts_of, tests_of};
 ghost use Rattle.addr_project.specs.Model.{Project};
+ghost use Rattle.addr_project.specs.Reading.{reply_of_folder};
 
 /// What puts leave, one after the other. Puts join, one that is there may be left out, and where names differ each
 /// file is there; a second time they leave what is there.
@@ -49,6 +50,12 @@ pub fn release_puts()
         → SameFound folder old new test }
     ensures untaken { (folder : List ℕ) (r : Release) (k : ℕ) (old new : List File) → AreNamed r.bundles
         → NoneTaken old folder r → IsAfter (take k (puts_of folder r)) old new → NoneTaken new folder r }
+{}
+
+/// A release's puts leave what its folder stands for as it was: the same project, or the same fault.
+pub fn project_stays()
+    ensures { (folder : List ℕ) (r : Release) (k : ℕ) (old new : List File) → AreNamed r.bundles
+        → IsAfter (take k (puts_of folder r)) old new → reply_of_folder new folder ≡ reply_of_folder old folder }
 {}
 
 /// The bundles of a project's release have the names of bundles' files, and no two of them have one.
