@@ -39,7 +39,7 @@ use Rattle.addr_release.specs.Opened.{Opened}
 use Rattle.addr_release.specs.Puts.{IsAfter, NoneTaken, bundle_put, catalogue_put, content_puts, hash_put, puts_of, state_put}
 use Rattle.addr_release.specs.Resolve.{Resolve}
 use Rattle.addr_release.specs.Sound.{HasSoundRelease}
-use Rattle.addr_release.specs.Standing.{HoldsJust, IsStoredAs, Stands}
+use Rattle.addr_release.specs.within.Standing.{HoldsJust, IsStoredAs, Stands}
 use Rattle.addr_release.proofs.FaithfulLemmas.{Carries, has-assets}
 use Rattle.addr_release.proofs.ImageLemmas.{AreOpened, image-at, image-item, jump-follows, member-held, ref-at}
 use Rattle.addr_release.proofs.KeyLemmas.{zip-unmap}

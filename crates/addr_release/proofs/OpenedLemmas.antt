@@ -19,7 +19,7 @@ use Rattle.addr_walks.proofs.Zips.{zip-right}
 use Rattle.addr_release.specs.Images.{NamesApart}
 use Rattle.addr_release.specs.Opened.{Opened}
 use Rattle.addr_release.specs.Resolve.{IsOpened, IsRelease}
-use Rattle.addr_release.specs.Standing.{StandsAs}
+use Rattle.addr_release.specs.within.Standing.{StandsAs}
 use Rattle.addr_release.proofs.ImageLemmas.{AreOpened, FilesApart, beside}
 
 pub hex-same : (a b : List ℕ) → Are16Bytes a → Are16Bytes b → hex_of a ≡ hex_of b → a ≡ b

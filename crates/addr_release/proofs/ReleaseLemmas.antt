@@ -23,7 +23,7 @@ use Rattle.addr_project.specs.Reach.{Item, Reach, Row, Shown, ShowsEntry, has_ke
 use Rattle.addr_project_rows.specs.Firsts.{is_among}
 use Rattle.addr_walks.proofs.Lists.{Contains-slice_get}
 use Rattle.addr_cab.specs.declared.object.ObjectOut.{ObjectOut}
-use Rattle.addr_release.specs.Standing.{IsNumberedRow, StandsAs}
+use Rattle.addr_release.specs.within.Standing.{IsNumberedRow, StandsAs}
 use Rattle.addr_release.specs.Opened.{Opened, IsUnfolding}
 use Rattle.addr_release.specs.Resolve.{IsRelease, Resolve, ResolvesKey, ResolvesRow}
 use Rattle.addr_release.proofs.FaithfulLemmas.{Carries, has-assets, faithful-shows}

@@ -23,7 +23,7 @@ use Rattle.addr_walks.specs.Walks.Leads.{stays, goes}
 use Rattle.addr_walks.proofs.Lists.{slice_get-Contains}
 use Rattle.addr_walks.proofs.Walking.{kept-along}
 use Rattle.addr_walks.proofs.Zips.{zip-there}
-use Rattle.addr_release.specs.Standing.{StandsAs}
+use Rattle.addr_release.specs.within.Standing.{StandsAs}
 use Rattle.addr_release.specs.Images.{NamesApart}
 use Rattle.addr_release.specs.Opened.{Opened, Jumps}
 use Rattle.addr_release.specs.Resolve.{IsRelease}

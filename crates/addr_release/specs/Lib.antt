@@ -3,8 +3,8 @@ pub mod Opened
 pub mod Resolve
 pub mod Images
 pub mod Built
-pub mod Standing
 pub mod Puts
 pub mod Sound
 pub mod Held
 pub mod Laws
+pub mod within

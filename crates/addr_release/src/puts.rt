@@ -34,8 +34,8 @@ pub fn content_laws()
         → AreFree content old → IsAfter (take k (with_catalogue folder content bytes)) old new → Keeps folder old new }
 {}
 
-/// The puts of a release have different names, so that each file is there behind them, and a second time nothing changes.
-/// Those of its content are none of catalogue and hash, and what isn't taken is free. A test finds at its put what it found before the first one; where none is taken, none is later.
+/// The puts of a release have different names, so that each file is there behind them, and put again they change nothing.
+/// Those of its content are none of catalogue and hash, so that the catalogue changes at its own put alone.
 pub fn release_puts()
     ensures once { (folder : List ℕ) (r : Release) → AreNamed r.bundles → NamesOnce (puts_of folder r) }
     ensures there { (folder : List ℕ) (r : Release) (old new : List File) → AreNamed r.bundles
@@ -43,6 +43,13 @@ pub fn release_puts()
     ensures second { (folder : List ℕ) (r : Release) (old new later : List File) → AreNamed r.bundles
         → IsAfter (puts_of folder r) old new → IsAfter (puts_of folder r) new later → SameFiles new later }
     ensures content { (folder : List ℕ) (r : Release) → AreNamed r.bundles → IsContent folder (content_puts folder r) }
+    ensures catalogue { (folder : List ℕ) (r : Release) → AreNamed r.bundles
+        → CatalogueAlong folder (content_puts folder r) r.catalogue }
+{}
+
+/// What isn't taken is free; a test finds at its put what it found before the first one; and where no name is taken, none
+/// is on the way, and no file but catalogue and hash gets other bytes.
+pub fn release_tests()
     ensures free { (folder : List ℕ) (r : Release) (files : List File) → AreNamed r.bundles
         → NoneTaken files folder r → AreFree (content_puts folder r) files }
     ensures tested { (folder : List ℕ) (r : Release) (k : ℕ) (old new : List File) (test : Test) → AreNamed r.bundles
@@ -50,6 +57,8 @@ pub fn release_puts()
         → SameFound folder old new test }
     ensures untaken { (folder : List ℕ) (r : Release) (k : ℕ) (old new : List File) → AreNamed r.bundles
         → NoneTaken old folder r → IsAfter (take k (puts_of folder r)) old new → NoneTaken new folder r }
+    ensures keeps { (folder : List ℕ) (r : Release) (k : ℕ) (old new : List File) → AreNamed r.bundles
+        → NoneTaken old folder r → IsAfter (take k (puts_of folder r)) old new → Keeps folder old new }
 {}
 
 /// A release's puts leave what its folder stands for as it was: the same project, or the same fault.
