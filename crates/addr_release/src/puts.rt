@@ -1,5 +1,5 @@
 // Laws of puts, for the crates that build, update and load: what is put last counts first. Nothing runs.
-ghost use Rattle.std.specs.Prelude.{◌≡◌, ◌≤◌, ◌++◌, ◌∷◌, [], ℕ, List, Some, take};
+ghost use Rattle.std.specs.Prelude.{◌≡◌, ◌↔◌, ◌≤◌, ◌++◌, ◌∷◌, [], ℕ, List, Some, take};
 ghost use Rattle.std.specs.List.{Contains};
 ghost use Rattle.addr_base.specs.Files.{IsPut, SameFiles, file_at};
 ghost use Rattle.addr_base.specs.declared.files.MemFile.{MemFile as File};
@@ -13,7 +13,8 @@ ghost use Rattle.addr_project.specs.Reading.{reply_of_folder};
 /// What puts leave, one after the other. Puts join, one that is there may be left out, and where names differ each
 /// file is there; a second time they leave what is there.
 pub fn put_laws()
-    ensures one { (put : File) (old new : List File) → IsPut put.name put.bytes old new → IsAfter (put ∷ []) old new }
+    ensures one { (put : File) (old new : List File)
+        → IsPut put.name put.bytes old new ↔ IsAfter (put ∷ []) old new }
     ensures none { (files : List File) → IsAfter [] files files }
     ensures same { (puts old new other : List File) → IsAfter puts old new
         → SameFiles new other → IsAfter puts old other }

@@ -1,8 +1,8 @@
-use Rattle.addr_release.proofs.PutLemmas.{after-put, after-none, after-same_files, after-joins, after-skips, after-there, after-again, once-agree}
+use Rattle.addr_release.proofs.PutLemmas.{after-put, put-after, after-none, after-same_files, after-joins, after-skips, after-there, after-again, once-agree}
 use Rattle.addr_release.proofs.puts.put_laws.Goals as goal
 
 pub returns-clause-one : goal.returns-clause-one
-returns-clause-one c = λ put old new is. after-put put.name put.bytes old new is
+returns-clause-one c = λ put old new. (after-put put.name put.bytes old new, put-after put.name put.bytes old new)
 
 pub returns-clause-none : goal.returns-clause-none
 returns-clause-none c = after-none
