@@ -5,3 +5,7 @@ pub mod OutsideLemmas
 pub mod SizeLemmas
 pub mod TotalLemmas
 pub mod EntryLemmas
+pub mod MarkLemmas
+pub mod FixedLemmas
+pub mod StateLemmas
+pub mod SoundLemmas

@@ -5,3 +5,5 @@ pub mod Outside
 pub mod FromPlan
 pub mod Owners
 pub mod Deps
+pub mod Fixed
+pub mod Stated

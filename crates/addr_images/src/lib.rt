@@ -10,16 +10,21 @@
 
 mod entries;
 mod files;
+mod fixed;
+mod guids;
 mod images;
 mod keys;
 mod limits;
+mod marks;
 mod outside;
 mod owners;
 mod rows;
 mod sizes;
+mod states;
 
 pub use entries::entries_of;
 pub use files::file_of;
 pub use limits::{LimitErr, layout_within, plan_within};
 pub use rows::{row_of, side_of};
 pub use sizes::bundle_bytes;
+pub use states::state_of;
