@@ -1,7 +1,7 @@
 -- The rows of a release meet what a locator asks of rows.
-use Rattle.std.proofs.Common.{◌≡◌, ◌<◌, ◌≤◌, ◌^◌, ◌+◌, ◌*◌, ℕ, zero, suc, Bool, true, false, ◌&&◌, ◌||◌, ◌==◌, not, nat_eq, nat_lt, List, [], ◌∷◌, ◌++◌, codes, length, map, take, sum_by, Some, refl, ap, subst, sym, ◌∙◌, ◌⊎◌, inl, inr, arith, length-append}
+use Rattle.std.proofs.Common.{◌≡◌, ◌<◌, ◌≤◌, ◌^◌, ◌*◌, ℕ, zero, suc, Bool, true, false, ◌&&◌, ◌||◌, ◌==◌, not, nat_lt, List, [], ◌∷◌, ◌++◌, codes, length, map, take, sum_by, Some, refl, ap, subst, sym, ◌∙◌, ◌⊎◌, inl, inr, arith, length-append}
 use Rattle.std.specs.Prelude.{IsTrue}
-use Rattle.std.specs.List.{AllZip, Contains, flat_map, list_all, list_any, slice_get}
+use Rattle.std.specs.List.{AllZip, Contains, list_all, list_any}
 use Rattle.std.specs.Str.{bytes_eq}
 use Rattle.std.proofs.lemmas.Bool.{false≢true, eqb-true}
 use Rattle.std.proofs.lemmas.Bool.Decides.{nat_tests}
@@ -18,8 +18,7 @@ use Rattle.addr_base.specs.declared.ids.Guid.{Guid}
 use Rattle.addr_catalog.proofs.FewLemmas.{twice-texts_once}
 use Rattle.addr_layout.specs.Members.{HasEntry}
 use Rattle.addr_layout.specs.Needs.{Needs}
-use Rattle.addr_layout.proofs.RankLemmas.{same-some}
-use Rattle.addr_locate.specs.Rows.{has_sound_deps, has_dep, are_bundles, keys_of, no_repeats, no_text_twice, rows_of, texts_once}
+use Rattle.addr_locate.specs.Rows.{has_sound_deps, has_dep, are_bundles, keys_of, no_repeats, no_text_twice, rows_of}
 use Rattle.addr_locate.specs.declared.rows.BundleRow.{BundleRow}
 use Rattle.addr_locate.specs.declared.rows.PlainAsset.{PlainAsset}
 use Rattle.addr_locate.proofs.PlainLemmas.{few_keys_of}
@@ -28,13 +27,11 @@ use Rattle.addr_pack.specs.Placement.{IsPlaced}
 use Rattle.addr_pack.specs.declared.bundles.Plan.{Plan}
 use Rattle.addr_pack.specs.declared.bundles.PlanBundle.{PlanBundle}
 use Rattle.addr_pack.proofs.DigestLemmas.{digests-fit}
-use Rattle.addr_project.specs.declared.model.Asset.{Asset}
 use Rattle.addr_project.specs.declared.model.Entry.{Entry}
 use Rattle.addr_project.specs.Kept.{IsKept}
 use Rattle.addr_project.proofs.OnceLemmas.{from_map, to_map}
 use Rattle.addr_project.specs.Model.{Project}
-use Rattle.addr_project.specs.Reach.{entry_keys}
-use Rattle.addr_release.specs.Built.{IsBundleOf, IsEntryRow}
+use Rattle.addr_release.specs.Built.{IsEntryRow}
 use Rattle.addr_release.specs.Names.{digest_from}
 use Rattle.addr_state.specs.Files.{file_name}
 use Rattle.addr_walks.specs.Closure.{IsDeps}

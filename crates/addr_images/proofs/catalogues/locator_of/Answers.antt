@@ -1,8 +1,7 @@
-use Rattle.std.proofs.Common.{◌≡◌, ◌<◌, ◌^◌, ℕ, List, length, ap, subst, sym, ◌∙◌, arith}
+use Rattle.std.proofs.Common.{◌≡◌, length, ap, subst, sym, ◌∙◌}
 use Rattle.std.specs.Prelude.{IsTrue}
 use Rattle.std.specs.List.{list_all}
-use Rattle.addr_locate.specs.Rows.{has_sound_deps, rows_of}
-use Rattle.addr_locate.specs.declared.rows.BundleRow.{BundleRow}
+use Rattle.addr_locate.specs.Rows.{has_sound_deps}
 use Rattle.addr_images.proofs.FitLemmas.{all-once, all-sound, few-keys, few-rows}
 use Rattle.addr_images.proofs.catalogues.locator_of.Goals as goal
 
