@@ -10,3 +10,4 @@ pub mod FixedLemmas
 pub mod StateLemmas
 pub mod SoundLemmas
 pub mod FitLemmas
+pub mod BundleRowLemmas

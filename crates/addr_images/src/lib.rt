@@ -22,6 +22,8 @@ mod owners;
 mod rows;
 mod sizes;
 mod states;
+#[cfg(test)]
+mod tests;
 
 pub use catalogues::catalogue_of;
 pub use entries::entries_of;
