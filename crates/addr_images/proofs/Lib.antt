@@ -1,0 +1,11 @@
+pub mod SumLemmas
+pub mod ToldLemmas
+pub mod WritingLemmas
+pub mod OutsideLemmas
+pub mod SizeLemmas
+pub mod TotalLemmas
+pub mod EntryLemmas
+pub mod MarkLemmas
+pub mod FixedLemmas
+pub mod StateLemmas
+pub mod SoundLemmas
