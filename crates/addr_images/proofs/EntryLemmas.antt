@@ -1,8 +1,8 @@
 -- The rows of entries: their bundles, their keys and their dependencies.
-use Rattle.std.proofs.Common.{◌≡◌, ◌<◌, ◌≤◌, ◌+◌, ℕ, zero, suc, Bool, true, not, cond, List, [], ◌∷◌, ◌++◌, length, get_or, map, take, Option, Some, None, is_some, refl, sym, ap, ap₂, subst, ◌∙◌, arith}
+use Rattle.std.proofs.Common.{◌≡◌, ◌<◌, ◌≤◌, ◌+◌, ℕ, Bool, true, not, cond, List, [], ◌∷◌, ◌++◌, length, get_or, map, take, Option, Some, None, is_some, refl, sym, ap, subst, ◌∙◌, arith}
 use Rattle.std.proofs.lemmas.List.{append_assoc, append-nil, get_or_default, take_all, length-map}
-use Rattle.std.proofs.lemmas.Option.{slice_get-get_or, slice_get_within, get_or_from_slice_get}
-use Rattle.std.specs.List.{AllZip, Contains, filter, list_any, slice_get}
+use Rattle.std.proofs.lemmas.Option.{slice_get_within, get_or_from_slice_get}
+use Rattle.std.specs.List.{AllZip, Contains, filter, slice_get}
 use Rattle.std.specs.Str.{bytes_eq}
 use Rattle.addr_base.specs.Ids.{hex_of}
 use Rattle.addr_base.specs.declared.ids.BundleNo.{BundleNo}
@@ -12,8 +12,7 @@ use Rattle.addr_layout.specs.Needs.{Needs}
 use Rattle.addr_layout.specs.Owners.{AreOwners, Replaces}
 use Rattle.addr_layout.specs.declared.model.Layout.{Layout}
 use Rattle.addr_layout.proofs.OwnerLemmas.{owners-more}
-use Rattle.addr_layout.proofs.RankLemmas.{same-some}
-use Rattle.addr_locate.specs.Names.{with_text, with_texts}
+use Rattle.addr_locate.specs.Names.{with_texts}
 use Rattle.addr_locate.specs.Rows.{texts_once}
 use Rattle.addr_locate.specs.declared.rows.PlainAsset.{PlainAsset}
 use Rattle.addr_locate.proofs.NumberLemmas.{texts_once-snoc}
@@ -27,7 +26,6 @@ use Rattle.addr_project.specs.Reach.{each_once}
 use Rattle.addr_release.specs.Built.{IsEntryRow}
 use Rattle.addr_walks.specs.Closure.{AreDeps, IsDeps}
 use Rattle.addr_walks.specs.Rows.{AreBelow, Edge}
-use Rattle.addr_walks.proofs.Lists.{Contains-slice_get}
 use Rattle.addr_walks.proofs.Zips.{zip-more}
 use Rattle.addr_images.specs.within.Deps.{AreDepsOf, IsRowTold}
 use Rattle.addr_images.specs.within.Owners.{AreOwnersIn, entry_rows}

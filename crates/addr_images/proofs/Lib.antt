@@ -9,3 +9,4 @@ pub mod MarkLemmas
 pub mod FixedLemmas
 pub mod StateLemmas
 pub mod SoundLemmas
+pub mod FitLemmas

@@ -1,32 +1,28 @@
 -- The size of a bundle's file, by the lengths of its members and the names of the bundles that it needs.
-use Rattle.std.proofs.Common.{◌≡◌, ◌≢◌, ◌<◌, ◌≤◌, ◌+◌, ◌-◌, ◌^◌, ℕ, zero, suc, Bool, true, false, ◌||◌, List, [], ◌∷◌, ◌++◌, length, get_or, map, min, Some, None, refl, sym, ap, ap₂, subst, ◌∙◌, ◌⊎◌, inl, inr, arith}
+use Rattle.std.proofs.Common.{◌≡◌, ◌≢◌, ◌<◌, ◌-◌, ◌^◌, ℕ, Bool, true, false, ◌||◌, List, [], ◌∷◌, length, map, min, Some, refl, sym, ap, ap₂, subst, ◌∙◌, inl, inr, arith}
 use Rattle.std.proofs.lemmas.Bool.{false≢true}
-use Rattle.std.proofs.lemmas.Option.{slice_get_within}
-use Rattle.std.proofs.lemmas.Slice.Eq.{bytes_eq-Decides}
 use Rattle.std.specs.Bool.{MatchBool}
-use Rattle.std.specs.List.{AllByRecursion, AllZip, Contains, flat_map, fold, list_any, slice_get, sum, zip}
+use Rattle.std.specs.List.{AllByRecursion, Contains, fold, list_any, slice_get}
 use Rattle.std.specs.Str.{bytes_eq}
-use Rattle.addr_base.specs.Ids.{Are16Bytes, digest_of}
+use Rattle.addr_base.specs.Ids.{Are16Bytes}
 use Rattle.addr_base.specs.declared.ids.Digest.{Digest}
 use Rattle.addr_base.specs.declared.ids.Guid.{Guid}
 use Rattle.addr_base.specs.declared.images.Home.{Home}
 use Rattle.addr_base.specs.declared.images.Home.TheVariants.{Own, Other}
 use Rattle.addr_base.specs.declared.images.RefTo.{RefTo}
 use Rattle.addr_cab.specs.declared.object.ObjectOut.{ObjectOut}
-use Rattle.addr_cab.specs.declared.object.ObjectSize.{ObjectSize}
 use Rattle.addr_cab.specs.Objects.{cab_nodes}
-use Rattle.addr_cab.specs.Outside.{AreOutside, with_home, with_homes, outside_of}
+use Rattle.addr_cab.specs.Outside.{with_home, with_homes, outside_of}
 use Rattle.addr_cab.specs.Sizes.{size_of, node_sizes}
 use Rattle.addr_cab.specs.Spelling.{is_home, leads_to}
 use Rattle.addr_cab.specs.Written.{IsTyped, IsTypedRef, refs_of, cab_table, cab_data, IsHome as IsHomeTyped}
 use Rattle.addr_cab.proofs.OutsideLaws.{are_outside, one_list, leads-flat}
 use Rattle.addr_layout.specs.declared.model.LayBundle.{LayBundle}
 use Rattle.addr_layout.specs.declared.model.Layout.{Layout}
-use Rattle.addr_layout.specs.declared.model.RefHome.{RefHome}
-use Rattle.addr_layout.specs.declared.model.RefHome.TheVariants.{Own as OwnBundle, Bundle}
+use Rattle.addr_layout.specs.declared.model.RefHome.TheVariants.{Bundle}
 use Rattle.addr_layout.specs.Layout.{IsBare, IsFull, IsLayout}
 use Rattle.addr_layout.specs.Members.{HasEntry, IsShared}
-use Rattle.addr_layout.specs.Needs.{Home as HomeIn, IsHome, Needs}
+use Rattle.addr_layout.specs.Needs.{Needs}
 use Rattle.addr_layout.proofs.PlacedLemmas.{one-bundle}
 use Rattle.addr_layout.proofs.RankLemmas.{same-some}
 use Rattle.addr_pack.proofs.DigestLemmas.{digests-fit}
@@ -41,13 +37,11 @@ use Rattle.addr_release.specs.Names.{digest_from}
 use Rattle.addr_unityfs.specs.Sizes as files
 use Rattle.addr_unityfs.specs.Written.{written, written_len}
 use Rattle.addr_unityfs.specs.declared.bundle.NodeOut.{NodeOut}
-use Rattle.addr_unityfs.specs.declared.bundle.NodeSize.{NodeSize}
-use Rattle.addr_walks.proofs.Lists.{Contains-here, Contains-later, Contains-none, Contains-cases, Contains-slice_get, slice_get-Contains, Contains-map, map-Contains}
+use Rattle.addr_walks.proofs.Lists.{Contains-here, Contains-later, Contains-slice_get, slice_get-Contains, Contains-map, map-Contains}
 use Rattle.addr_walks.proofs.Zips.{zip-here, zip-there}
 use Rattle.addr_images.specs.Sizes.{IsFileSize, IsSizeAt}
 use Rattle.addr_images.specs.within.Outside.{names_told}
-use Rattle.addr_images.specs.within.Told.{asset_at, asset_size, bundle_home, home_told, object_told, objects_told, ref_told, refs_told, HasHomes}
-use Rattle.addr_images.specs.within.Writing.{size_of_file}
+use Rattle.addr_images.specs.within.Told.{asset_size, bundle_home, home_told, objects_told, ref_told}
 use Rattle.addr_images.proofs.ToldLemmas.{objects-are, sizes-are}
 use Rattle.addr_images.proofs.WritingLemmas.{all-at, all-from, any-here, homes-there, small}
 
@@ -149,8 +143,8 @@ outside-is p plan b lay kept shared full =
     let ours = are_outside (direct_refs plan lay.direct) in
     names-are plan lay.direct
     ∙ one_list (refs_of (objects_told p plan lay)) (outside_of (direct_refs plan lay.direct)) (outside_of (refs_of (objects_told p plan lay)))
-      (record { ascend = ours.ascend; named = λ name. ours.named name ∙ same-leads p plan b lay kept shared full name })
-      (are_outside (refs_of (objects_told p plan lay)))
+    (record { ascend = ours.ascend; named = λ name. ours.named name ∙ same-leads p plan b lay kept shared full name })
+    (are_outside (refs_of (objects_told p plan lay)))
 
 -- ---- what the types say
 
@@ -171,9 +165,10 @@ module _ (p : Project) (plan : Plan) (b : ℕ) (lay : LayBundle) (kept : IsKept 
       let from = zip-there (IsImageOf p plan b) are.members (objects_told p plan lay) o are.images here in
       let asset = from.2.0 in
       let among = Contains-slice_get p.assets from.0 asset from.2.1 in
-      let sixteen = all-at (λ (a : Asset). Are16Bytes a.guid.0) p.assets kept.guids asset among in
-      (ap (λ (g : Guid). length g.0) from.2.2.guid ∙ sixteen.sixteen,
-      all-from IsTypedRef o.refs (λ r there. (let ref = zip-there (IsRefTo p plan b) asset.refs o.refs r from.2.2.refs there in typed-ref asset ref.0 r among ref.1 ref.2)))
+      let sixteen = all-at (λ (a : Asset). Are16Bytes a.guid.0) p.assets kept.guids asset among in (
+        ap (λ (g : Guid). length g.0) from.2.2.guid ∙ sixteen.sixteen,
+        all-from IsTypedRef o.refs (λ r there. (let ref = zip-there (IsRefTo p plan b) asset.refs o.refs r from.2.2.refs there in typed-ref asset ref.0 r among ref.1 ref.2)),
+      )
 
   pub typed : AllByRecursion IsTyped (objects_told p plan lay)
   typed = all-from IsTyped (objects_told p plan lay) typed-object
@@ -225,9 +220,12 @@ size-is p plan lay n is small = omega (arith, is, small)
 pub size-new : (p : Project) (plan : Plan) (b : ℕ) (bundle : PlanBundle) (lay : LayBundle) (n : ℕ) → IsKept p → IsShared p plan → IsFull p plan b lay → NodeSizes → FileSizes → slice_get plan.bundles b ≡ Some bundle → bundle.kept ≡ false
     → n ≡ min (files.file_size (length p.version) (node_sizes (length (names_told plan lay.direct)) (map (asset_size p) lay.members))) (2 ^ 64 - 1) → IsSizeAt p plan b n
 size-new p plan b bundle lay n kept shared full nodes sizes at new is =
-    let told = size-is p plan lay n is (file-below p plan b lay kept shared full) in
-    (bundle, at, subst (λ t. MatchBool t (n ≡ 0) (IsFileSize p plan b bundle n)) (sym new)
-    (objects_told p plan lay, objects-are p plan b lay full, told ∙ sym (file-long p plan b bundle lay kept shared full nodes sizes)))
+    let told = size-is p plan lay n is (file-below p plan b lay kept shared full) in (
+      bundle,
+      at,
+      subst (λ t. MatchBool t (n ≡ 0) (IsFileSize p plan b bundle n)) (sym new)
+          (objects_told p plan lay, objects-are p plan b lay full, told ∙ sym (file-long p plan b bundle lay kept shared full nodes sizes)),
+    )
 
 pub size-small : (p : Project) (plan : Plan) (b : ℕ) (lay : LayBundle) (n : ℕ) → IsKept p → IsShared p plan → IsFull p plan b lay
     → n ≡ min (files.file_size (length p.version) (node_sizes (length (names_told plan lay.direct)) (map (asset_size p) lay.members))) (2 ^ 64 - 1) → n < 2 ^ 29

@@ -1,25 +1,21 @@
 -- The content state keeps the reader's rules.
-use Rattle.std.proofs.Common.{◌≡◌, ◌≢◌, ◌<◌, ◌≤◌, ◌+◌, ◌*◌, ◌==◌, ◌||◌, ℕ, zero, suc, Bool, true, false, List, [], ◌∷◌, ◌++◌, codes, length, get_or, map, Some, refl, sym, ap, ap₂, subst, ◌∙◌, ◌⊎◌, inl, inr, arith, length-append}
+use Rattle.std.proofs.Common.{◌≡◌, ◌≤◌, ◌+◌, ◌==◌, ◌||◌, ℕ, zero, suc, Bool, true, false, List, [], ◌∷◌, ◌++◌, codes, length, map, Some, refl, sym, ap, ap₂, subst, ◌∙◌, ◌⊎◌, inl, inr, arith, length-append}
 use Rattle.std.proofs.lemmas.Bool.{false≢true}
 use Rattle.std.proofs.lemmas.List.Elements.{All-from_recursion}
-use Rattle.std.proofs.lemmas.Option.{slice_get-get_or, slice_get_within}
 use Rattle.std.proofs.lemmas.Slice.Eq.{bytes_eq-Decides}
 use Rattle.std.specs.Cmp.Lexicographic.{slice_cmp}
-use Rattle.std.specs.List.{AllByRecursion, Contains, slice_get}
+use Rattle.std.specs.List.{AllByRecursion, slice_get}
 use Rattle.std.specs.List.Sorted.{IsStrictlySortedBy}
 use Rattle.std.specs.Ordering.{nat_cmp}
-use Rattle.std.specs.Str.{bytes_eq}
 use Rattle.hex.proofs.HexLemmas.{length-encode_with}
-use Rattle.hex.specs.Hex.{encode_with, encode_lower, lower_digits}
+use Rattle.hex.specs.Hex.{lower_digits}
 use Rattle.addr_base.specs.Escapes.{escaped, is_name_byte}
 use Rattle.addr_base.specs.Ids.{digest_of, hex_of}
-use Rattle.addr_base.specs.declared.ids.Digest.{Digest}
-use Rattle.addr_base.specs.declared.ids.Guid.{Guid}
-use Rattle.addr_layout.specs.Members.{HasEntry, IsShared, Member}
+use Rattle.addr_layout.specs.Members.{IsShared}
 use Rattle.addr_layout.proofs.PlacedLemmas.{one-bundle}
 use Rattle.addr_layout.proofs.RankLemmas.{same-some}
 use Rattle.addr_locate.specs.declared.rows.BundleRow.{BundleRow}
-use Rattle.addr_pack.specs.BundleNames.{beginning, is_plain}
+use Rattle.addr_pack.specs.BundleNames.{is_plain}
 use Rattle.addr_pack.specs.Laws.{FewBundles, GroupNames, PlainNames, ShortNames}
 use Rattle.addr_pack.specs.LongNames.{NamesFit}
 use Rattle.addr_pack.specs.Placement.{IsPlaced}
@@ -30,13 +26,11 @@ use Rattle.addr_project.specs.declared.model.Group.{Group}
 use Rattle.addr_project.specs.Faults.{is_reserved}
 use Rattle.addr_project.specs.Kept.{IsKept, IsText}
 use Rattle.addr_project.specs.Model.{Project}
-use Rattle.addr_release.specs.Built.{IsBundleOf, IsFixedName, IsStateBundle, IsStateOf, ReleaseBundle, fetch_id, side_text}
+use Rattle.addr_release.specs.Built.{IsFixedName, IsStateBundle, ReleaseBundle, fetch_id, side_text}
 use Rattle.addr_release.specs.Names.{digest_from}
 use Rattle.addr_state.specs.Files.{file_name, is_bundle_byte, side_file, HasNameBytes}
 use Rattle.addr_state.specs.Sound.{EntriesOnce, IsSound, IsWellFormed}
-use Rattle.addr_state.specs.declared.model.State.{State}
 use Rattle.addr_state.specs.declared.model.StateBundle.{StateBundle}
-use Rattle.addr_walks.specs.Places.{EachAt}
 use Rattle.addr_walks.specs.Walks.{IsListOf}
 use Rattle.addr_walks.specs.Walks.Leads.{stays}
 use Rattle.addr_walks.proofs.Lists.{Contains-slice_get}
@@ -105,21 +99,24 @@ module _ (p : Project) (plan : Plan) (rows : List BundleRow) (kept : IsKept p) (
           let there = made-at bundles b row (ap (λ rs. slice_get rs b) are ∙ row_at) in
           let of = made b there.0 there.1 in
           let bundle : of.bundle ≡ is.bundle = same-some of.bundle is.bundle (sym of.at ∙ is.at) in
-          let group : of.group ≡ is.group = same-some of.group is.group (sym of.group_at ∙ (ap (λ (q : PlanBundle). slice_get p.groups q.group) bundle ∙ is.group_at)) in
-          (there.0, there.1, record {
-            bundle = is.bundle;
-            at = is.at;
-            group = is.group;
-            group_at = is.group_at;
-            name = is.name;
-            file = is.file ∙ ap₂ (λ side (r : BundleRow). side_file side is.bundle.name r.digest) (sym (of.side ∙ ap (λ (g : Group). g.remote) group)) (sym there.2);
-            id = is.id ∙ ap (λ (r : BundleRow). r.id) (sym there.2);
-            group_name = is.group_name;
-            digest = is.digest ∙ ap (λ (r : BundleRow). r.digest) (sym there.2);
-            size = is.size ∙ ap (λ (r : BundleRow). r.size) (sym there.2);
-            entries = is.entries;
-            objects = is.objects;
-          })
+          let group : of.group ≡ is.group = same-some of.group is.group (sym of.group_at ∙ (ap (λ (q : PlanBundle). slice_get p.groups q.group) bundle ∙ is.group_at)) in (
+            there.0,
+            there.1,
+            record {
+              bundle = is.bundle;
+              at = is.at;
+              group = is.group;
+              group_at = is.group_at;
+              name = is.name;
+              file = is.file ∙ ap₂ (λ side (r : BundleRow). side_file side is.bundle.name r.digest) (sym (of.side ∙ ap (λ (g : Group). g.remote) group)) (sym there.2);
+              id = is.id ∙ ap (λ (r : BundleRow). r.id) (sym there.2);
+              group_name = is.group_name;
+              digest = is.digest ∙ ap (λ (r : BundleRow). r.digest) (sym there.2);
+              size = is.size ∙ ap (λ (r : BundleRow). r.size) (sym there.2);
+              entries = is.entries;
+              objects = is.objects;
+            },
+          )
         where
           made-at : (ms : List ReleaseBundle) (k : ℕ) (row : BundleRow) → slice_get (map (λ (m : ReleaseBundle). m.row) ms) k ≡ Some row → (m : ReleaseBundle) × (slice_get ms k ≡ Some m) × (m.row ≡ row)
           made-at [] k row at = absurd (cc at)

@@ -1,38 +1,30 @@
 -- The content state of a release: its lists ascend, and it keeps the reader's rules.
-use Rattle.std.proofs.Common.{◌≡◌, ◌≢◌, ◌<◌, ◌≤◌, ◌+◌, ℕ, zero, suc, Bool, true, false, List, [], ◌∷◌, ◌++◌, codes, length, get_or, map, All, Some, None, Less, Ordering, refl, sym, ap, ap₂, subst, ◌∙◌, ◌⊎◌, inl, inr, arith, length-append}
+use Rattle.std.proofs.Common.{◌≡◌, ◌<◌, ◌+◌, ℕ, zero, suc, Bool, List, [], ◌∷◌, ◌++◌, length, get_or, map, All, Some, refl, sym, ap, ap₂, subst, ◌∙◌}
 use Rattle.std.proofs.lemmas.List.{length_push}
 use Rattle.std.proofs.lemmas.List.Elements.{Contains-get_or}
 use Rattle.std.proofs.lemmas.List.Kept.{IsStrictlySortedBy-filter}
-use Rattle.std.proofs.lemmas.Option.{slice_get-get_or, slice_get_within, get_or_from_slice_get}
-use Rattle.std.proofs.lemmas.Slice.Eq.{bytes_eq-Decides}
 use Rattle.std.specs.Cmp.Lexicographic.{slice_cmp}
-use Rattle.std.specs.List.{AllByRecursion, AllPass, Contains, filter, slice_get}
+use Rattle.std.specs.List.{Contains, filter, slice_get}
 use Rattle.std.specs.List.Sorted.{IsStrictlySortedBy}
 use Rattle.std.specs.Ordering.{nat_cmp}
-use Rattle.addr_base.specs.Escapes.{escaped}
-use Rattle.addr_base.specs.Ids.{digest_of, hex_of}
 use Rattle.addr_base.specs.declared.ids.Guid.{Guid}
 use Rattle.addr_layout.specs.Layout.{IsFull, by_guid}
-use Rattle.addr_layout.specs.Members.{HasEntry, IsEntry, IsEntryOf, IsNumbered, IsShared, Member}
-use Rattle.addr_layout.proofs.PlacedLemmas.{one-bundle, one-number}
-use Rattle.addr_layout.proofs.RankLemmas.{same-some}
+use Rattle.addr_layout.specs.Members.{HasEntry, IsEntry, IsNumbered, Member}
 use Rattle.addr_layout.specs.declared.model.LayBundle.{LayBundle}
 use Rattle.addr_locate.specs.declared.rows.BundleRow.{BundleRow}
 use Rattle.addr_pack.specs.declared.bundles.Plan.{Plan}
 use Rattle.addr_pack.specs.declared.bundles.PlanBundle.{PlanBundle}
 use Rattle.addr_project.specs.declared.model.Asset.{Asset}
-use Rattle.addr_project.specs.declared.model.Entry.{Entry}
-use Rattle.addr_project.specs.declared.model.Group.{Group}
 use Rattle.addr_project.specs.Kept.{IsKept, asset_guids}
 use Rattle.addr_project.specs.Model.{Project}
 use Rattle.addr_project.specs.Reach.{guid_cmp}
 use Rattle.addr_state.specs.declared.model.StateBundle.{StateBundle}
 use Rattle.addr_walks.specs.Places.{EachAt}
-use Rattle.addr_walks.specs.Walks.{IsListOf, Leads}
+use Rattle.addr_walks.specs.Walks.{IsListOf}
 use Rattle.addr_walks.specs.Walks.Leads.{stays, goes}
-use Rattle.addr_walks.proofs.Lists.{Contains-map, map-Contains, Contains-filter, filter-Contains, Contains-slice_get, slice_get-Contains, sorted-map, EachAt-push}
+use Rattle.addr_walks.proofs.Lists.{Contains-map, map-Contains, Contains-filter, filter-Contains, slice_get-Contains, sorted-map, EachAt-push}
 use Rattle.addr_images.specs.within.Stated.{AreEntryGuids, AreEntryMarks, AreMemberGuids, AreStated, HasTexts, IsStated, guid_at, is_marked}
-use Rattle.addr_images.specs.within.Told.{asset_at, no_asset}
+use Rattle.addr_images.specs.within.Told.{no_asset}
 use Rattle.addr_images.proofs.ToldLemmas.{asset-is}
 use Rattle.addr_images.proofs.WritingLemmas.{members-below}
 
@@ -109,7 +101,16 @@ all-marked-below p plan b lay marks ns kept full same = λ k d within.
 pub stated : (p : Project) (plan : Plan) (b : ℕ) (bundle : PlanBundle) (row : BundleRow) (entries objects : List Guid) (s : StateBundle) → slice_get plan.bundles b ≡ Some bundle → HasTexts p bundle row entries objects s
     → AreEntryGuids p plan b entries → AreMemberGuids p plan b objects → IsStated p plan b row s
 stated p plan b bundle row entries objects s at texts inside all = record {
-  bundle = bundle; at = at; group = texts.group; group_at = texts.group_at; name = texts.name; file = texts.file; id = texts.id; group_name = texts.group_name; digest = texts.digest; size = texts.size;
+  bundle = bundle;
+  at = at;
+  group = texts.group;
+  group_at = texts.group_at;
+  name = texts.name;
+  file = texts.file;
+  id = texts.id;
+  group_name = texts.group_name;
+  digest = texts.digest;
+  size = texts.size;
   entries = subst (IsListOf guid_cmp (HasEntry p plan b)) (sym texts.entries_are) inside;
   objects = subst (IsListOf guid_cmp (Member p plan b)) (sym texts.objects_are) all;
 }

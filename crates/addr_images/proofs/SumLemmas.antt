@@ -1,11 +1,11 @@
 -- Sums over numbers without repeats are at most the sum over all numbers below a bound.
-use Rattle.std.proofs.Common.{◌≡◌, ◌<◌, ◌≤◌, ◌+◌, ℕ, zero, suc, Bool, true, false, not, cond, eqb, List, [], ◌∷◌, ◌++◌, length, get_or, take, sum_by, Some, refl, sym, ap, subst, ◌∙◌, arith}
+use Rattle.std.proofs.Common.{◌≡◌, ◌<◌, ◌≤◌, ◌+◌, ℕ, zero, suc, Bool, true, false, not, cond, eqb, List, [], ◌∷◌, ◌++◌, length, get_or, take, sum_by, refl, sym, ap, subst, ◌∙◌, arith}
 use Rattle.std.proofs.lemmas.Bool.{eqb-true, eq-eqb, false≢true}
 use Rattle.std.proofs.lemmas.List.{take_more, take_all}
 use Rattle.std.proofs.lemmas.List.Sums.{sum_by-cons, sum_by_push}
-use Rattle.std.specs.List.{Contains, filter, slice_get}
+use Rattle.std.specs.List.{Contains, filter}
 use Rattle.addr_walks.specs.Once.{AreOnce}
-use Rattle.addr_walks.proofs.Lists.{Contains-here, Contains-later, Contains-none, filter-Contains, slice_get-Contains}
+use Rattle.addr_walks.proofs.Lists.{Contains-here, Contains-later, filter-Contains, slice_get-Contains}
 
 -- the weights of all numbers below a bound together
 abbrev pub below : (ℕ → ℕ) → ℕ → ℕ
@@ -19,9 +19,10 @@ Apart (m ∷ ms) = (Contains ms m → ⊥) × Apart ms
 
 apart : (ns : List ℕ) → AreOnce ns → Apart ns
 apart [] once = tt
-apart (m ∷ ms) once =
-    (λ again. (let at = slice_get-Contains ms m again in let same = once 0 (suc at.0) m refl at.1 in omega (arith, same)),
-    apart ms (λ i j x here there. (let same = once (suc i) (suc j) x here there in omega (arith, same))))
+apart (m ∷ ms) once = (
+  λ again. (let at = slice_get-Contains ms m again in let same = once 0 (suc at.0) m refl at.1 in omega (arith, same)),
+  apart ms (λ i j x here there. (let same = once (suc i) (suc j) x here there in omega (arith, same))),
+)
 
 abbrev is_not : ℕ → ℕ → Bool
 is_not n m = not (eqb m n)

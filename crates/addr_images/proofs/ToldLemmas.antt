@@ -1,13 +1,11 @@
 -- The objects of a bundle as its layout makes them: they are the bundle's objects, and their lengths are those of its members.
-use Rattle.std.proofs.Common.{◌≡◌, ◌≢◌, ◌<◌, ◌≤◌, ◌+◌, ◌*◌, ℕ, zero, suc, List, [], ◌∷◌, ◌++◌, length, get_or, map, take, Some, None, refl, sym, ap, ap₂, subst, ◌∙◌, ◌⊎◌, inl, inr, arith, length-append}
+use Rattle.std.proofs.Common.{◌≡◌, ◌≢◌, ◌<◌, ◌≤◌, ◌+◌, ℕ, zero, suc, List, [], ◌∷◌, ◌++◌, length, get_or, map, take, Some, refl, sym, ap, ap₂, subst, ◌∙◌, inl, inr, arith}
 use Rattle.std.proofs.lemmas.List.{take_all}
 use Rattle.std.proofs.lemmas.Slice.Zip.{length-zip}
-use Rattle.std.proofs.lemmas.Option.{slice_get-get_or, slice_get_within, get_or_from_slice_get}
+use Rattle.std.proofs.lemmas.Option.{slice_get_within, get_or_from_slice_get}
 use Rattle.std.specs.Bool.{MatchBool}
-use Rattle.std.specs.List.{AllByRecursion, AllZip, Contains, flat_map, slice_get, zip}
+use Rattle.std.specs.List.{AllByRecursion, AllZip, Contains, slice_get, zip}
 use Rattle.addr_base.specs.declared.ids.Guid.{Guid}
-use Rattle.addr_base.specs.declared.images.RefTo.{RefTo}
-use Rattle.addr_cab.specs.declared.object.ObjectOut.{ObjectOut}
 use Rattle.addr_cab.specs.declared.object.ObjectSize.{ObjectSize}
 use Rattle.addr_cab.specs.Sizes.{size_of}
 use Rattle.addr_layout.specs.declared.model.LayBundle.{LayBundle}
@@ -16,9 +14,7 @@ use Rattle.addr_layout.specs.declared.model.RefHome.{RefHome}
 use Rattle.addr_layout.specs.declared.model.RefHome.TheVariants.{Own as OwnBundle, Bundle}
 use Rattle.addr_layout.specs.Direct.{IsAllNew}
 use Rattle.addr_layout.specs.Layout.{AreHomes, IsBare, IsFull, IsLayout}
-use Rattle.addr_layout.specs.Members.{HasEntry}
 use Rattle.addr_layout.specs.Needs.{Home, IsHome}
-use Rattle.addr_layout.proofs.RankLemmas.{same-some}
 use Rattle.addr_pack.specs.declared.bundles.Plan.{Plan}
 use Rattle.addr_pack.specs.declared.bundles.PlanBundle.{PlanBundle}
 use Rattle.addr_project.specs.declared.model.Asset.{Asset}
@@ -100,12 +96,15 @@ refs-are p plan b guids homes zipped = zip-maps (IsHome p plan b) (IsRefTo p pla
 
 object-is : (p : Project) (plan : Plan) (b n : ℕ) (homes : List RefHome) → AreHomes p plan b n homes → IsImageOf p plan b n (object_told p plan n homes)
 object-is p plan b n homes (asset, at, zipped) =
-    let same = asset-is p n asset at in
-    (asset, at, record {
-      guid = ap (λ (a : Asset). a.guid) same;
-      bytes = ap (λ (a : Asset). a.bytes) same;
-      refs = subst (λ (a : Asset). AllZip (IsRefTo p plan b) asset.refs (refs_told plan a.refs homes)) (sym same) (refs-are p plan b asset.refs homes zipped);
-    })
+    let same = asset-is p n asset at in (
+      asset,
+      at,
+      record {
+        guid = ap (λ (a : Asset). a.guid) same;
+        bytes = ap (λ (a : Asset). a.bytes) same;
+        refs = subst (λ (a : Asset). AllZip (IsRefTo p plan b) asset.refs (refs_told plan a.refs homes)) (sym same) (refs-are p plan b asset.refs homes zipped);
+      },
+    )
 
 pub images-are : (p : Project) (plan : Plan) (b : ℕ) (lay : LayBundle) → IsFull p plan b lay → AllZip (IsImageOf p plan b) lay.members (objects_told p plan lay)
 unfolding objects_told

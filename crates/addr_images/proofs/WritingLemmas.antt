@@ -1,5 +1,5 @@
 -- The objects of a bundle can be written as a file, and the file stays far below its bound, by the limits of a project.
-use Rattle.std.proofs.Common.{◌≡◌, ◌≢◌, ◌<◌, ◌≤◌, ◌+◌, ◌*◌, ◌/◌, ◌%◌, ◌-◌, ◌^◌, ◌==◌, ℕ, zero, suc, Bool, true, false, ◌||◌, ◌&&◌, List, [], ◌∷◌, ◌++◌, length, get_or, map, sum_by, replicate, if◌then◌else◌, Some, None, Less, Ordering, Equal, Greater, refl, sym, ap, ap₂, subst, ◌∙◌, ◌⊎◌, inl, inr, arith, length-append}
+use Rattle.std.proofs.Common.{◌≡◌, ◌≢◌, ◌<◌, ◌≤◌, ◌+◌, ◌*◌, ◌/◌, ◌%◌, ◌^◌, ◌==◌, ℕ, zero, suc, Bool, true, false, ◌||◌, ◌&&◌, List, [], ◌∷◌, length, get_or, map, sum_by, replicate, if◌then◌else◌, Less, Ordering, Equal, Greater, refl, sym, ap, ap₂, subst, ◌∙◌, ◌⊎◌, inl, inr, arith, length-append}
 use Rattle.std.proofs.lemmas.Bool.{false≢true, leb-true}
 use Rattle.std.proofs.lemmas.Cmp.{on_total, nat_list_cmp_total}
 use Rattle.std.proofs.lemmas.List.{length-map, length-replicate}
@@ -7,12 +7,12 @@ use Rattle.std.proofs.lemmas.List.Elements.{All-from_recursion, All-contains}
 use Rattle.std.proofs.lemmas.List.Concat.{length-flat_map}
 use Rattle.std.proofs.lemmas.List.Sums.{sum_by-cons}
 use Rattle.std.proofs.lemmas.Map.Keys.{Less-from_sorted}
-use Rattle.std.proofs.lemmas.Option.{slice_get-get_or, slice_get_within, get_or_from_slice_get}
+use Rattle.std.proofs.lemmas.Option.{slice_get-get_or, get_or_from_slice_get}
 use Rattle.std.proofs.lemmas.Slice.Eq.{bytes_eq-Decides}
 use Rattle.std.specs.BTreeSet.{insert_key}
 use Rattle.std.specs.Cmp.{IsTotalOrder}
 use Rattle.std.specs.Cmp.Lexicographic.{slice_cmp}
-use Rattle.std.specs.List.{AllByRecursion, AllZip, Contains, flat_map, fold, list_all, list_any, slice_get, zip}
+use Rattle.std.specs.List.{AllByRecursion, AllZip, Contains, list_all, list_any, zip}
 use Rattle.std.specs.Ordering.{is_lt, nat_cmp}
 use Rattle.std.specs.Prelude.{nat_le}
 use Rattle.std.specs.Str.{bytes_eq}
@@ -33,11 +33,9 @@ use Rattle.addr_layout.specs.declared.model.RefHome.{RefHome}
 use Rattle.addr_layout.specs.declared.model.RefHome.TheVariants.{Own as OwnBundle, Bundle}
 use Rattle.addr_layout.specs.Laws.{AreLed, IsLed}
 use Rattle.addr_layout.specs.Layout.{AreHomes, IsFull, by_guid}
-use Rattle.addr_layout.specs.Members.{IsNumbered}
-use Rattle.addr_layout.specs.Needs.{Home as HomeIn, IsHome}
+use Rattle.addr_layout.specs.Needs.{IsHome}
 use Rattle.addr_layout.proofs.RankLemmas.{same-some, number-below}
 use Rattle.addr_pack.specs.declared.bundles.Plan.{Plan}
-use Rattle.addr_pack.specs.declared.bundles.PlanBundle.{PlanBundle}
 use Rattle.addr_project.specs.declared.model.Asset.{Asset}
 use Rattle.addr_project.specs.Kept.{IsKept, asset_guids}
 use Rattle.addr_project.proofs.OnceLemmas.{to_map}
@@ -46,15 +44,15 @@ use Rattle.addr_project_rows.specs.Fields.{is_version, is_within}
 use Rattle.addr_release.specs.Images.{AreObjects, IsImageOf}
 use Rattle.addr_unityfs.specs.Flags.{to_sixteen}
 use Rattle.addr_unityfs.specs.Format.{NoZero}
-use Rattle.addr_unityfs.specs.Sizes.{file_size, data_size, header_size, info_size}
+use Rattle.addr_unityfs.specs.Sizes.{file_size, data_size, header_size}
 use Rattle.addr_unityfs.specs.Written.{blocks_of, plain_block}
 use Rattle.addr_walks.specs.Once.{AreOnce}
-use Rattle.addr_walks.proofs.Lists.{Contains-here, Contains-later, Contains-none, Contains-cases, Contains-slice_get, slice_get-Contains, sorted-once}
-use Rattle.addr_walks.proofs.Zips.{zip-here, zip-there}
-use Rattle.addr_images.specs.within.Told.{asset_at, asset_size, bundle_home, home_told, no_asset, object_told, objects_told, ref_told, refs_told, HasHomes}
+use Rattle.addr_walks.proofs.Lists.{Contains-here, Contains-later, Contains-none, Contains-cases, Contains-slice_get, sorted-once}
+use Rattle.addr_walks.proofs.Zips.{zip-here}
+use Rattle.addr_images.specs.within.Told.{asset_at, asset_size, bundle_home, no_asset, object_told, objects_told, ref_told, refs_told, HasHomes}
 use Rattle.addr_images.specs.within.Writing.{CanBeFile, size_of_file}
 use Rattle.addr_images.proofs.SumLemmas.{sum-once, few-once}
-use Rattle.addr_images.proofs.ToldLemmas.{asset-is, has-homes, home-there, images-are, objects-are, refs-long, sizes-are, zip-all, zip-both, zip-changes, zip-long, zip-maps}
+use Rattle.addr_images.proofs.ToldLemmas.{asset-is, has-homes, home-there, images-are, objects-are, refs-long, sizes-are, zip-all, zip-both, zip-changes, zip-long}
 
 -- ---- tests over lists
 

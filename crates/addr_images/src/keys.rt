@@ -13,7 +13,8 @@ use std::alloc::Global;
 fn is_among(keys: &[Text], text: &str) -> bool
     ensures { result ≡ list_any (λ key. bytes_eq key text.now) keys.now }
 {
-    keys.iter().any(|key| is_same(key.as_bytes(), text.as_bytes()))
+    keys.iter()
+        .any(|key| is_same(key.as_bytes(), text.as_bytes()))
 }
 
 /// One more key, unless it is there.

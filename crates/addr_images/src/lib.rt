@@ -8,6 +8,7 @@
 //! Start: `specs/Limits.antt`, `specs/Sizes.antt`, then `src/files.rt`.
 #![tactic(auto)]
 
+mod catalogues;
 mod entries;
 mod files;
 mod fixed;
@@ -22,6 +23,7 @@ mod rows;
 mod sizes;
 mod states;
 
+pub use catalogues::catalogue_of;
 pub use entries::entries_of;
 pub use files::file_of;
 pub use limits::{LimitErr, layout_within, plan_within};

@@ -1,5 +1,5 @@
 -- What a content state says of a bundle, after its row.
-use Rattle.std.specs.Prelude.{ℕ, ◌≡◌, ◌↔◌, Bool, true, false, List, length, map, Some, slice_get, slice_index_or}
+use Rattle.std.specs.Prelude.{ℕ, ◌≡◌, ◌↔◌, Bool, true, false, List, Some, slice_get, slice_index_or}
 use Rattle.addr_base.specs.declared.ids.Guid.{Guid}
 use Rattle.addr_layout.specs.Members.{HasEntry, Member}
 use Rattle.addr_locate.specs.declared.rows.BundleRow.{BundleRow}

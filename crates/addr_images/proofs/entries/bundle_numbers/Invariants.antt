@@ -1,5 +1,4 @@
 use Rattle.std.proofs.Common.{◌≡◌, map, take}
-use Rattle.addr_base.specs.declared.ids.BundleNo.{BundleNo}
 use Rattle.addr_images.proofs.entries.bundle_numbers.Given as goal
 
 abbrev pub invariant-loop-n : goal.invariant-loop-n

@@ -1,6 +1,4 @@
-use Rattle.std.proofs.Common.{◌≡◌, ◌<◌, ◌≤◌, length, take, refl, subst, sym, ap, ◌∙◌, arith}
-use Rattle.std.specs.List.{AllZip}
-use Rattle.addr_release.specs.Built.{IsEntryRow}
+use Rattle.std.proofs.Common.{refl, subst}
 use Rattle.addr_layout.proofs.RankLemmas.{read-at}
 use Rattle.addr_images.specs.within.Deps.{IsRowTold}
 use Rattle.addr_images.proofs.EntryLemmas.{list-there, rows-more}

@@ -1,4 +1,4 @@
-use Rattle.std.proofs.Common.{get_or, map, ap, ◌∙◌}
+use Rattle.std.proofs.Common.{map, ap, ◌∙◌}
 use Rattle.addr_images.specs.within.Fixed.{with_group}
 use Rattle.addr_images.proofs.FixedLemmas.{fixed-more, fixed-none}
 use Rattle.addr_images.proofs.fixed.fixed_set.Goals as goal

@@ -1,6 +1,4 @@
-use Rattle.std.proofs.Common.{◌≡◌, ◌<◌, ◌≤◌, [], List, length, get_or, sym, ap, ap₂, subst, ◌∙◌, arith}
-use Rattle.std.specs.List.{AllZip}
-use Rattle.addr_layout.specs.declared.model.RefHome.{RefHome}
+use Rattle.std.proofs.Common.{◌≡◌, ◌<◌, length, get_or, sym, ap, ap₂, subst, ◌∙◌, arith}
 use Rattle.addr_images.specs.within.Told.{HasHomes, object_told, objects_told}
 use Rattle.addr_images.proofs.ToldLemmas.{map-zip-more, map-zip-all, zip-long}
 use Rattle.addr_images.proofs.WritingLemmas.{zip-at}

@@ -1,7 +1,7 @@
-use Rattle.std.proofs.Common.{◌≡◌, ◌<◌, [], length, get_or, refl, sym, ap, ap₂, ◌∙◌, arith}
+use Rattle.std.proofs.Common.{◌<◌, [], length, get_or, ap, arith}
 use Rattle.addr_layout.specs.declared.model.RefHome.TheVariants.{Own}
 use Rattle.addr_base.specs.declared.images.RefTo.{RefTo}
-use Rattle.addr_images.specs.within.Told.{home_told, ref_told, refs_told}
+use Rattle.addr_images.specs.within.Told.{ref_told, refs_told}
 use Rattle.addr_images.proofs.ToldLemmas.{map-zip-more, map-zip-all}
 use Rattle.addr_images.proofs.images.refs_told.Goals as goal
 

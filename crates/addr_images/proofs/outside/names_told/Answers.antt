@@ -1,4 +1,4 @@
-use Rattle.std.proofs.Common.{[], get_or, sym, ap, ◌∙◌}
+use Rattle.std.proofs.Common.{sym, ap, ◌∙◌}
 use Rattle.addr_cab.specs.Outside.{with_home}
 use Rattle.addr_images.proofs.OutsideLemmas.{names-none, names-more}
 use Rattle.addr_images.proofs.outside.names_told.Goals as goal

@@ -1,5 +1,4 @@
-use Rattle.std.proofs.Common.{length, subst, sym, ap, ◌∙◌, arith}
-use Rattle.addr_images.specs.Sizes.{IsBytesCount, IsSizeAt}
+use Rattle.addr_images.specs.Sizes.{IsSizeAt}
 use Rattle.addr_images.proofs.TotalLemmas.{sum-more, sum-none}
 use Rattle.addr_images.proofs.sizes.bundle_bytes.Goals as goal
 

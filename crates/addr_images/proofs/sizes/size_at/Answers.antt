@@ -1,8 +1,8 @@
-use Rattle.std.proofs.Common.{◌≡◌, ◌<◌, length, get_or, sym, ap, ◌∙◌, arith}
+use Rattle.std.proofs.Common.{◌<◌, length, get_or, ap, ◌∙◌, arith}
 use Rattle.std.proofs.lemmas.List.Elements.{Contains-get_or}
 use Rattle.addr_layout.proofs.RankLemmas.{read-at}
 use Rattle.addr_pack.specs.declared.bundles.PlanBundle.{PlanBundle}
-use Rattle.addr_images.proofs.SizeLemmas.{new-full, size-kept, size-new, size-small}
+use Rattle.addr_images.proofs.SizeLemmas.{new-full, size-new, size-small}
 use Rattle.addr_images.proofs.WritingLemmas.{members-below}
 use Rattle.addr_images.proofs.sizes.size_at.Goals as goal
 
