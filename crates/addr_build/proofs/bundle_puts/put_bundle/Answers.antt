@@ -1,0 +1,24 @@
+use Rattle.std.proofs.Common.{arith, Bool, Ok, Err, IfSome, [], ◌∷◌, subst, sym}
+use Rattle.addr_release.specs.Names.{side_path}
+use Rattle.addr_build.specs.Endings.{Ends, Tells, key_tests}
+use Rattle.addr_build.specs.Putting.{file_of}
+use Rattle.addr_build.proofs.EndLemmas.{ends-refused, ends-there, ends-put, err-is}
+use Rattle.addr_build.proofs.bundle_puts.put_bundle.Goals as goal
+
+pub returns-in_err-is_owed_anywhere-clause-ends : goal.returns-in_err-is_owed_anywhere-clause-ends
+returns-in_err-is_owed_anywhere-clause-ends g c =
+    let own = side_path c.args.folder.now c.args.remote c.args.key.now in
+    let tests = key_tests 0 c.args.key.now c.args.bytes.now in
+    let old = g.D.Depot.now c.args.depot.now in
+    let new = g.D.Depot.now c.is_owed_anywhere.new.depot in
+    let e = c.in_err-is_owed_anywhere.field-0.0 in
+    subst (λ r. Ends {T = Bool} c.args.folder.now (file_of own c.args.bytes.now ∷ []) 0 tests old new r) (sym (err-is c.from_residual.result e c.from_residual.ensures.1))
+    (ends-refused Bool c.args.folder.now (file_of own c.args.bytes.now ∷ []) tests own c.args.bytes.now old new e (omega arith) c.in_err-is_owed_anywhere.ensures.same c.in_err-is_owed_anywhere.ensures.tests)
+
+pub returns-else-branch-clause-ends : goal.returns-else-branch-clause-ends
+returns-else-branch-clause-ends g c =
+    let own = side_path c.args.folder.now c.args.remote c.args.key.now in
+    let tests = key_tests 0 c.args.key.now c.args.bytes.now in
+    let old = g.D.Depot.now c.args.depot.now in
+    ends-there c.args.folder.now tests own c.args.bytes.now old (g.D.Depot.now c.is_owed_anywhere.new.depot) c.in_ok-is_owed_anywhere.ensures.same
+    (subst (λ owed. IfSome old.files (λ files. Tells files c.args.folder.now tests own c.args.bytes.now (Ok owed))) c.if-branch.false c.in_ok-is_owed_anywhere.ensures.tests)

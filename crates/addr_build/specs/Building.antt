@@ -1,0 +1,63 @@
+-- Putting the release of a project: which bundles were put, how many of their files weren't there, and how it stops.
+use Rattle.std.specs.Prelude.{ℕ, ◌≡◌, ◌≤◌, ◌⊎◌, not, Bool, false, List, [], ◌∷◌, length, map, Option, Some, None, Result, Ok, Err}
+use Rattle.std.specs.Bool.{MatchBool}
+use Rattle.std.specs.List.{count_by}
+use Rattle.std.specs.Str.{bytes_eq}
+use Rattle.addr_base.specs.Files.{SameStore, Store, file_at}
+use Rattle.addr_base.specs.declared.files.MemFile.{MemFile}
+use Rattle.addr_locate.specs.declared.rows.BundleRow.{BundleRow}
+use Rattle.addr_pack.specs.declared.bundles.Plan.{Plan}
+use Rattle.addr_project.specs.Model.{Project}
+use Rattle.addr_release.specs.Built.{IsBundleOf, ReleaseBundle}
+use Rattle.addr_release.specs.Puts.{Test, all_bundle_tests, bundle_put, bundle_tests, first_taken}
+use Rattle.addr_walks.specs.Places.{EachAt}
+use Rattle.addr_build.specs.Endings.{Ends}
+use Rattle.addr_build.specs.Moments.{LaysAll}
+use Rattle.addr_build.specs.declared.error.PutErr.{PutErr}
+use Rattle.addr_build.specs.declared.error.PutErr.TheVariants.{NoMemory}
+use Rattle.addr_build.specs.declared.bundles.MadeBundle.{MadeBundle}
+use Rattle.addr_build.specs.declared.bundles.PutBundle.{PutBundle}
+use Rattle.addr_build.specs.declared.bundles.PutBundles.{PutBundles}
+
+-- bytes that are there
+abbrev pub has_bytes : List ℕ → Option (List ℕ) → Bool
+has_bytes bytes None = false
+has_bytes bytes (Some found) = bytes_eq found bytes
+
+-- how many of these puts are of files that aren't there
+abbrev pub count_owed : List MemFile → List MemFile → ℕ
+count_owed files puts = count_by (λ put. not (has_bytes put.bytes (file_at put.name files))) puts
+
+-- a bundle that was made, as one of a release
+abbrev pub release_bundle : MadeBundle → ReleaseBundle
+release_bundle m = record { remote = m.remote; row = m.row; file = m.file }
+
+-- what putting bundle b answers and leaves
+abbrev pub PutsOne : Project → Plan → List ℕ → ℕ → Store → Store → Result PutBundle PutErr → Type 0
+PutsOne p plan folder b old new (Ok one) = (made : ReleaseBundle) × IsBundleOf p plan b made × (one.row ≡ made.row)
+    × Ends folder (bundle_put folder made ∷ []) 0 (bundle_tests 0 made) old new (Ok one)
+    × ((files : List MemFile) → old.files ≡ Some files
+    → MatchBool one.put (file_at (bundle_put folder made).name files ≡ None) (file_at (bundle_put folder made).name files ≡ Some made.file))
+PutsOne p plan folder b old new (Err e) =
+    ((made : ReleaseBundle) × IsBundleOf p plan b made × Ends {T = PutBundle} folder (bundle_put folder made ∷ []) 0 (bundle_tests 0 made) old new (Err e))
+    ⊎ (SameStore old new × (e ≡ NoMemory))
+
+-- the first bundles of a project's release were put, and none of their names was taken
+pub record AreLaid (p : Project) (plan : Plan) (folder : List ℕ) (old new : Store) (rows : List BundleRow) (put : ℕ) : Type 0 where
+  pub bundles : List ReleaseBundle
+  pub each : EachAt (IsBundleOf p plan) bundles
+  pub told : rows ≡ map (λ made. made.row) bundles
+  pub lays : LaysAll (map (bundle_put folder) bundles) old new
+  pub free : (files : List MemFile) → old.files ≡ Some files → first_taken files folder (all_bundle_tests bundles) ≡ None
+  pub count : (files : List MemFile) → old.files ≡ Some files → put ≡ count_owed files (map (bundle_put folder) bundles)
+
+-- putting bundles stopped: the last of these was being put, or memory was refused after it
+abbrev pub StopsIn : Project → Plan → List ℕ → Store → Store → PutErr → Type 0
+StopsIn p plan folder old new e = (bundles : List ReleaseBundle) × EachAt (IsBundleOf p plan) bundles
+    × Ends {T = PutBundles} folder (map (bundle_put folder) bundles) 0 (all_bundle_tests bundles) old new (Err e)
+
+-- what putting all bundles answers and leaves
+abbrev pub PutsBundles : Project → Plan → List ℕ → Store → Store → Result PutBundles PutErr → Type 0
+PutsBundles p plan folder old new (Ok laid) =
+    AreLaid p plan folder old new laid.rows laid.put × (length laid.rows ≡ length plan.bundles) × (laid.put ≤ length laid.rows)
+PutsBundles p plan folder old new (Err e) = StopsIn p plan folder old new e

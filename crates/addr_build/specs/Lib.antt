@@ -1,0 +1,9 @@
+pub mod Moments
+pub mod Putting
+pub mod Endings
+pub mod FromDepot
+pub mod FromCauses
+pub mod Building
+pub mod Release
+pub mod Outcomes
+pub mod Index
