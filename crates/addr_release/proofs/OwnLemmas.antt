@@ -1,6 +1,6 @@
 -- A project's release is one, and its bundles have the names of bundles' files.
 use Rattle.std.specs.List.{slice_get}
-use Rattle.std.proofs.Common.{◌↔◌, map, Some, ap, subst, ◌∙◌, sym}
+use Rattle.std.proofs.Common.{◌↔◌, map, Some, ap, subst, ◌∙◌, sym, List}
 use Rattle.std.proofs.lemmas.Cmp.{nat_list_cmp_total}
 use Rattle.addr_layout.specs.Laws.{AtMostOne}
 use Rattle.addr_layout.proofs.SharedLemmas.{shared}
@@ -14,8 +14,9 @@ use Rattle.addr_pack.proofs.UniqueLemmas.{one_placement}
 use Rattle.addr_project.specs.Kept.{IsKept}
 use Rattle.addr_project.specs.Model.{Project}
 use Rattle.addr_project.proofs.OnceLemmas.{to_map, from_map}
+use Rattle.addr_walks.specs.Places.{EachAt}
 use Rattle.addr_walks.proofs.Lists.{slice_get-Contains, sorted-once}
-use Rattle.addr_release.specs.Built.{IsReleaseIn, IsReleaseOf, Release, ReleaseBundle}
+use Rattle.addr_release.specs.Built.{IsBundleOf, IsReleaseIn, IsReleaseOf, Release, ReleaseBundle}
 use Rattle.addr_release.specs.Images.{NamesApart}
 use Rattle.addr_release.specs.Laws.{AreNamed}
 use Rattle.addr_release.specs.Names.{digest_from}
@@ -35,19 +36,23 @@ apart-names p plan placed = (
   λ apart b c x y at there same. ap (λ (z : PlanBundle). z.name) (same-some x y (sym at ∙ (ap (slice_get plan.bundles) (apart b c x y at there same) ∙ there))),
 )
 
-pub are-named : (p : Project) (r : Release) → IsReleaseOf p r → AreNamed r.bundles
-are-named p r (plan, placed, is) = record {
+-- bundles of a placement, all or the first ones, have names of files as keys
+pub made-named : (p : Project) (plan : Plan) (bundles : List ReleaseBundle) → IsPlaced p plan → EachAt (IsBundleOf p plan) bundles → AreNamed bundles
+made-named p plan bundles placed each = record {
   named = λ made here.
-      let at = slice_get-Contains r.bundles made here in
-      let bundle = is.rows.each at.0 made at.1 in
+      let at = slice_get-Contains bundles made here in
+      let bundle = each at.0 made at.1 in
       (bundle.bundle.name, digest_from made.file, digests-fit made.file, bundle.told.key);
   once = λ i j key here there.
-      let first = from_map (λ (made : ReleaseBundle). made.row.key) r.bundles i key here in
-      let second = from_map (λ (made : ReleaseBundle). made.row.key) r.bundles j key there in
-      let one = is.rows.each i first.0 first.1 in
-      let two = is.rows.each j second.0 second.1 in
+      let first = from_map (λ (made : ReleaseBundle). made.row.key) bundles i key here in
+      let second = from_map (λ (made : ReleaseBundle). made.row.key) bundles j key there in
+      let one = each i first.0 first.1 in
+      let two = each j second.0 second.1 in
       let names = key-name one.bundle.name two.bundle.name (digest_from first.0.file) (digest_from second.0.file) (digests-fit first.0.file) (digests-fit second.0.file)
       (sym one.told.key ∙ (first.2 ∙ (sym second.2 ∙ two.told.key))) in
       sorted-once nat_list_cmp_total (map (λ (b : PlanBundle). b.name) plan.bundles) placed.by_name i j two.bundle.name
       (to_map (λ (b : PlanBundle). b.name) plan.bundles i one.bundle one.at ∙ ap Some names) (to_map (λ (b : PlanBundle). b.name) plan.bundles j two.bundle two.at);
 }
+
+pub are-named : (p : Project) (r : Release) → IsReleaseOf p r → AreNamed r.bundles
+are-named p r (plan, placed, is) = made-named p plan r.bundles placed is.rows.each

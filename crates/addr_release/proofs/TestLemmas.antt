@@ -12,11 +12,11 @@ use Rattle.addr_layout.proofs.RankLemmas.{same-some}
 use Rattle.addr_project.specs.Reading.{path}
 use Rattle.addr_project.proofs.OnceLemmas.{to_map}
 use Rattle.addr_state.specs.Files.{side_folder}
-use Rattle.addr_walks.proofs.Lists.{Contains-here, Contains-later, Contains-cases, Contains-none, Contains-slice_get, slice_get-Contains, slice_get-append_left, slice_get-push_last}
+use Rattle.addr_walks.proofs.Lists.{Contains-here, Contains-later, Contains-cases, Contains-none, Contains-slice_get, map-Contains, slice_get-Contains, slice_get-append_left, slice_get-push_last}
 use Rattle.addr_release.specs.Built.{Release, ReleaseBundle}
 use Rattle.addr_release.specs.Laws.{AreFree, AreNamed, IsFree, SameFound}
 use Rattle.addr_release.specs.Names.{digest_from, side_path, state_file, state_path}
-use Rattle.addr_release.specs.Puts.{IsAfter, NoneTaken, Test, all_bundle_tests, are_other, bundle_put, bundle_tests, catalogue_put, content_puts, hash_put, is_taken, puts_of, state_put, state_test, tests_of}
+use Rattle.addr_release.specs.Puts.{IsAfter, NoneTaken, Test, all_bundle_tests, are_other, bundle_put, bundle_tests, catalogue_put, content_puts, first_taken, hash_put, is_taken, puts_of, state_put, state_test, tests_of}
 use Rattle.addr_release.proofs.NameLemmas.{bundle-apart, content-cases, long-at, name_of, one-key, path-same, release-once, side-same, state-apart, state-beside, take-at}
 use Rattle.addr_release.proofs.PutLemmas.{after-either, after-same, take-within}
 use Rattle.addr_release.proofs.ContentLemmas.{behind-cases}
@@ -97,12 +97,20 @@ other-free bytes (Some there) is = by_test (bytes_eq there bytes) refl is
 same-free : (bytes : List ℕ) (found : Option (List ℕ)) → found ≡ Some bytes → are_other bytes found ≡ false
 same-free bytes found is = ap (are_other bytes) is ∙ ap not ((bytes_eq-Decides bytes bytes).1 refl)
 
+abbrev bytes_of : MemFile → List ℕ
+bytes_of put = put.bytes
+
+-- where no name of these bundles is taken, each of their files is free
+pub bundles-free : (folder : List ℕ) (bundles : List ReleaseBundle) (files : List MemFile) → first_taken files folder (all_bundle_tests bundles) ≡ None → AreFree (map (bundle_put folder) bundles) files
+bundles-free folder bundles files none put here =
+    let made = map-Contains (bundle_put folder) bundles put here in
+    let at = slice_get-Contains bundles made.0 made.1 in
+    let test = side_test (0 + at.0) made.0 made.0.remote in
+    subst (IsFree files) made.2 (other-free made.0.file (file_at (path folder test.name) files) (find-none (is_taken files folder) (all_bundle_tests bundles) none test (tests-here 0 bundles at.0 made.0 made.0.remote at.1)))
+
 module _ (folder : List ℕ) (r : Release) where
   abbrev last : Test
   last = state_test (length r.bundles) r.state_bytes
-
-  abbrev bytes_of : MemFile → List ℕ
-  bytes_of put = put.bytes
 
   -- a test is one of a bundle's, or the state's
   abbrev pub IsOneOf : Test → Type 0

@@ -14,5 +14,6 @@ pub use laws::{
     names_apart, release_again, release_is_held, release_is_one, release_is_sound, release_shows,
 };
 pub use puts::{
-    content_laws, project_stays, put_laws, release_is_named, release_puts, release_tests,
+    bundle_puts, content_laws, project_stays, put_laws, release_is_named, release_puts,
+    release_tests,
 };

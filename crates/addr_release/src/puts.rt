@@ -1,12 +1,16 @@
 // Laws of puts, for the crates that build, update and load: what is put last counts first. Nothing runs.
-ghost use Rattle.std.specs.Prelude.{◌≡◌, ◌↔◌, ◌≤◌, ◌++◌, ◌∷◌, [], ℕ, List, Some, take};
+ghost use Rattle.std.specs.Prelude.{◌≡◌, ◌↔◌, ◌≤◌, ◌++◌, ◌∷◌, [], ℕ, List, Some, None, map, take};
 ghost use Rattle.std.specs.List.{Contains};
 ghost use Rattle.addr_base.specs.Files.{IsPut, SameFiles, file_at};
 ghost use Rattle.addr_base.specs.declared.files.MemFile.{MemFile as File};
-ghost use Rattle.addr_release.specs.Built.{IsReleaseOf, Release};
+ghost use Rattle.addr_release.specs.Built.{IsBundleOf, IsReleaseOf, Release, ReleaseBundle};
 ghost use Rattle.addr_release.specs.Laws.{AreFree, AreNamed, AreThere, IsContent, Keeps, NamesOnce, SameFound, CatalogueAlong};
 ghost use Rattle.addr_release.specs.Laws.{with_catalogue};
-ghost use Rattle.addr_release.specs.Puts.{IsAfter, NoneTaken, Test, content_puts, puts_of, tests_of};
+ghost use Rattle.addr_release.specs.Puts.{IsAfter, NoneTaken, Test, all_bundle_tests, bundle_put, content_puts};
+ghost use Rattle.addr_release.specs.Puts.{first_taken, puts_of, tests_of};
+ghost use Rattle.addr_pack.specs.Placement.{IsPlaced};
+ghost use Rattle.addr_pack.specs.declared.bundles.Plan.{Plan as Placement};
+ghost use Rattle.addr_walks.specs.Places.{EachAt};
 ghost use Rattle.addr_project.specs.Model.{Project};
 ghost use Rattle.addr_project.specs.Reading.{reply_of_folder};
 
@@ -66,6 +70,20 @@ pub fn release_tests()
 pub fn project_stays()
     ensures { (folder : List ℕ) (r : Release) (k : ℕ) (old new : List File) → AreNamed r.bundles
         → IsAfter (take k (puts_of folder r)) old new → reply_of_folder new folder ≡ reply_of_folder old folder }
+{}
+
+/// The puts of bundles alone, as of the first ones of a placement: keys that are names of files and differ make puts of
+/// different names, none of them the catalogue's or the hash's; and what isn't taken is free.
+pub fn bundle_puts()
+    ensures named { (p : Project) (plan : Placement) (bundles : List ReleaseBundle) → IsPlaced p plan
+        → EachAt (IsBundleOf p plan) bundles → AreNamed bundles }
+    ensures once { (folder : List ℕ) (bundles : List ReleaseBundle) → AreNamed bundles
+        → NamesOnce (map (bundle_put folder) bundles) }
+    ensures content { (folder : List ℕ) (bundles : List ReleaseBundle) → AreNamed bundles
+        → IsContent folder (map (bundle_put folder) bundles) }
+    ensures free { (folder : List ℕ) (bundles : List ReleaseBundle) (files : List File)
+        → first_taken files folder (all_bundle_tests bundles) ≡ None
+        → AreFree (map (bundle_put folder) bundles) files }
 {}
 
 /// The bundles of a project's release have the names of bundles' files, and no two of them have one.
