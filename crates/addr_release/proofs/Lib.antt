@@ -1,0 +1,15 @@
+pub mod PutLemmas
+pub mod NameLemmas
+pub mod ContentLemmas
+pub mod TestLemmas
+pub mod OneLemmas
+pub mod OwnLemmas
+pub mod FaithfulLemmas
+pub mod NamedLemmas
+pub mod ImageLemmas
+pub mod KeyLemmas
+pub mod OpenedLemmas
+pub mod ReleaseLemmas
+pub mod SoundLemmas
+pub mod BuiltLemmas
+pub mod ProjectLemmas

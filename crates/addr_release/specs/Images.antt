@@ -47,4 +47,5 @@ pub record AreObjects (p : Project) (plan : Plan) (b : ℕ) (objects : List Obje
 
 -- bundles of different numbers have different internal names: a premise wherever bundles are found by these
 abbrev pub NamesApart : Plan → Type 0
-NamesApart plan = (b c : ℕ) (x y : PlanBundle) → slice_get plan.bundles b ≡ Some x → slice_get plan.bundles c ≡ Some y → digest_of x.name ≡ digest_of y.name → b ≡ c
+NamesApart plan = (b c : ℕ) (x y : PlanBundle) → slice_get plan.bundles b ≡ Some x → slice_get plan.bundles c ≡ Some y
+    → digest_of x.name ≡ digest_of y.name → b ≡ c

@@ -6,3 +6,5 @@ pub mod Built
 pub mod Puts
 pub mod Sound
 pub mod Held
+pub mod Laws
+pub mod within

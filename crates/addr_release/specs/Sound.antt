@@ -22,13 +22,20 @@ HasFile files folder row = (file : List ℕ) × (bundle_file files folder row.ke
 
 -- where a row's walk begins
 abbrev pub BeginsAt : AssetRow → Place → Type 0
-BeginsAt a start = (first : BundleNo) × (g : Guid) × (slice_get a.deps 0 ≡ Some first) × Are16Bytes g.0 × (a.id ≡ hex_of g.0) × (start ≡ place first.0 g)
+BeginsAt a start = (first : BundleNo) × (g : Guid) × (slice_get a.deps 0 ≡ Some first) × Are16Bytes g.0
+    × (a.id ≡ hex_of g.0) × (start ≡ place first.0 g)
 
+-- a walk from a row's GUID in its first dependency leads to a place
+abbrev pub Visits : List Opened → AssetRow → Place → Type 0
+Visits opened a q = (start : Place) × BeginsAt a start × Leads (Jumps opened) start q
+
+-- each bundle's file is as its row says; no two bundles have one name; a row's dependencies hold each bundle of its walk; and
+-- places of its walk with one GUID hold the same
 pub record IsSoundRelease (files : List MemFile) (folder : List ℕ) (c : Catalogue) (opened : List Opened) : Type 0 where
   pub stored : (row : BundleRow) → Contains c.locator.bundles row → HasFile files folder row
   pub names : AreOnce (map (λ b. b.name) c.locator.bundles)
-  pub deps : (a : AssetRow) (start q : Place) → Contains c.locator.assets a → BeginsAt a start → Leads (Jumps opened) start q → Contains (map (λ d. d.0) a.deps) q.bundle
-  pub same : (a : AssetRow) (start q s : Place) (d e : ObjectOut) → Contains c.locator.assets a → BeginsAt a start → Leads (Jumps opened) start q → Leads (Jumps opened) start s
+  pub deps : (a : AssetRow) (q : Place) → Contains c.locator.assets a → Visits opened a q → Contains (map (λ d. d.0) a.deps) q.bundle
+  pub same : (a : AssetRow) (q s : Place) (d e : ObjectOut) → Contains c.locator.assets a → Visits opened a q → Visits opened a s
       → q.guid ≡ s.guid → Holds opened q d → Holds opened s e → item_of_object d ≡ item_of_object e
 
 -- a folder's release is sound
