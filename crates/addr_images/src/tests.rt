@@ -132,12 +132,7 @@ fn catalogue_bytes(
     Ok(bytes)
 }
 
-fn make_in(
-    alloc: Global,
-    project: &Project,
-    plan: &Plan,
-    layout: &Layout,
-) -> Result<Made, NoMemory>
+fn make_in(alloc: Global, project: &Project, plan: &Plan, layout: &Layout) -> Result<Made, NoMemory>
     requires placed { IsPlaced project.now plan.now }
     requires fit { NamesFit project.now }
     requires laid { IsLayout project.now plan.now layout.now }
