@@ -18,4 +18,5 @@ pub record AreBundleRows (p : Project) (plan : Plan) (rows : List BundleRow) : T
 
 -- the state of a release whose bundles have these rows, whatever their files are
 abbrev pub IsStateFor : Project → Plan → List BundleRow → State → Type 0
-IsStateFor p plan rows state = (bundles : List ReleaseBundle) → map (λ b. b.row) bundles ≡ rows → EachAt (IsBundleOf p plan) bundles → IsStateOf p plan bundles state
+IsStateFor p plan rows state = (bundles : List ReleaseBundle) → map (λ b. b.row) bundles ≡ rows
+    → EachAt (IsBundleOf p plan) bundles → IsStateOf p plan bundles state

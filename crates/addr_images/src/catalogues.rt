@@ -37,8 +37,9 @@ fn locator_of(
     Ok(locator)
 }
 
-/// The one text of a release's catalogue, which names its state. Within the limits of a project and of its placement the tables of
-/// a catalogue stay below their bound of 2^31 bytes; that is not proved, so a catalogue past it would be told as want of memory.
+/// The one text of a release's catalogue, which names its state. Within the limits of a project and of its placement the
+/// tables of a catalogue stay below their bound of 2^31 bytes; that is argued in docs/DECISIONS.md and not proved, so a
+/// catalogue past it would be told as want of memory.
 pub fn catalogue_of(
     alloc: Global,
     project: &Project,

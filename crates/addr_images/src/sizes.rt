@@ -47,7 +47,8 @@ fn laid_size(
 ) -> Result<u64, NoMemory>
     requires { All (λ n. n < length project.now.assets) lay.now.members }
     ensures { IfOk result (λ n. n ≡ min (file_size (length project.now.version)
-        (node_sizes (length (names_told plan.now lay.now.direct)) (map (asset_size project.now) lay.now.members))) (2 ^ 64 - 1)) }
+        (node_sizes (length (names_told plan.now lay.now.direct))
+        (map (asset_size project.now) lay.now.members))) (2 ^ 64 - 1)) }
 {
     let sizes = asset_sizes(alloc, project, lay.members.as_slice())?;
     let outside = outside_count(alloc, plan, lay.direct.as_slice())?;
