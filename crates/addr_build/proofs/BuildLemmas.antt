@@ -38,8 +38,8 @@ module _ (folder : List ℕ) (p : Project) (plan : Plan) (within : IsWithin p pl
         passed = some.passed;
         past = some.past;
         told = λ files is. (
-          let (after, now, passes) = some.told files is in
-          (after, now, inr (p, told-at old.files (λ f. ProjectOf f folder p) files is read, puts, tests, (plan, within, begun), passes)));
+            let (after, now, passes) = some.told files is in
+            (after, now, inr (p, told-at old.files (λ f. ProjectOf f folder p) files is read, puts, tests, (plan, within, begun), passes)));
       }
 
   pub build-done : (summary : Summary) → PutsRelease p plan folder mid new (Ok summary) → Builds folder old new

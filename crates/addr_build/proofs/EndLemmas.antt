@@ -104,11 +104,15 @@ module _ (folder : List ℕ) (xs ys : List MemFile) (n m : ℕ) (s t : List Test
 
   pub ends-then : {T : Type 0} (result : Result T PutErr) → Ends folder ys m t b c result → Ends folder (xs ++ ys) n (s ++ t) a c result
   ends-then (Ok done) (all, none) = (lays-all-then xs ys a b c lays all, λ files is. (let (mid, at, one) = lays.some.told files is in later-first files mid is at ∙ none mid at))
-  ends-then (Err (Taken name)) (k, few, all, taken) =
-      (length xs + k, (let long = length-append xs ys in omega (arith, few, long)), subst (λ ps. LaysAll ps a c) (sym (take-append-add xs ys k)) (lays-all-then xs (take k ys) a b c lays all), λ files is. (
+  ends-then (Err (Taken name)) (k, few, all, taken) = (
+    length xs + k,
+    (let long = length-append xs ys in omega (arith, few, long)),
+    subst (λ ps. LaysAll ps a c) (sym (take-append-add xs ys k)) (lays-all-then xs (take k ys) a b c lays all),
+    λ files is. (
         let (mid, at, one) = lays.some.told files is in
         let (test, first, number, named) = taken mid at in
-        (test, later-first files mid is at ∙ first, (let e : m + k ≡ n + (length xs + k) = omega (arith, from) in number ∙ e), named)))
+        (test, later-first files mid is at ∙ first, (let e : m + k ≡ n + (length xs + k) = omega (arith, from) in number ∙ e), named)),
+  )
   ends-then (Err Fault) some = lays-then xs ys a b c lays some
   ends-then (Err NoMemory) some = lays-then xs ys a b c lays some
 
@@ -163,10 +167,14 @@ ends-some T folder puts n tests a b depot.NoMemory some = some
 
 -- puts that were refused, before others
 pub ends-more : (A B : Type 0) (folder : List ℕ) (xs ys : List MemFile) (n : ℕ) (s t : List Test) (a b : Store) (e : PutErr) → Ends {T = A} folder xs n s a b (Err e) → Ends {T = B} folder (xs ++ ys) n (s ++ t) a b (Err e)
-ends-more A B folder xs ys n s t a b (Taken name) (k, few, all, taken) =
-    (k, (let long = length-append xs ys in omega (arith, few, long)), subst (λ ps. LaysAll ps a b) (sym (take-append-le k xs ys (omega (arith, few)))) all, λ files is. (
+ends-more A B folder xs ys n s t a b (Taken name) (k, few, all, taken) = (
+  k,
+  (let long = length-append xs ys in omega (arith, few, long)),
+  subst (λ ps. LaysAll ps a b) (sym (take-append-le k xs ys (omega (arith, few)))) all,
+  λ files is. (
       let (test, first, number, named) = taken files is in
-      (test, find-append (is_taken files folder) s t ∙ ap (λ o. option_or o (first_taken files folder t)) first, number, named)))
+      (test, find-append (is_taken files folder) s t ∙ ap (λ o. option_or o (first_taken files folder t)) first, number, named)),
+)
 ends-more A B folder xs ys n s t a b Fault some = lays-more xs ys a b some
 ends-more A B folder xs ys n s t a b NoMemory some = lays-more xs ys a b some
 
@@ -191,10 +199,18 @@ renumber-some false false n k m x y x' y' name xn yn xm ym xs ys (test, first, n
 
 pub renumber-key : {T : Type 0} (folder : List ℕ) (puts : List MemFile) (n m : ℕ) (key bytes : List ℕ) (a b : Store) (r : Result T PutErr)
     → Ends folder puts n (key_tests n key bytes) a b r → Ends folder puts m (key_tests m key bytes) a b r
-renumber-key folder puts n m key bytes a b (Ok done) (all, free) = (all, λ files is.
-    renumber-none (are_other bytes (file_at (side_path folder false key) files)) (are_other bytes (file_at (side_path folder true key) files)) _ _ _ _ (free files is))
-renumber-key folder puts n m key bytes a b (Err (Taken name)) (k, few, all, taken) = (k, few, all, λ files is.
-    renumber-some (are_other bytes (file_at (side_path folder false key) files)) (are_other bytes (file_at (side_path folder true key) files)) n k m _ _ _ _ name refl refl refl refl refl refl (taken files is))
+renumber-key folder puts n m key bytes a b (Ok done) (all, free) = (
+  all,
+  λ files is.
+      renumber-none (are_other bytes (file_at (side_path folder false key) files)) (are_other bytes (file_at (side_path folder true key) files)) _ _ _ _ (free files is),
+)
+renumber-key folder puts n m key bytes a b (Err (Taken name)) (k, few, all, taken) = (
+  k,
+  few,
+  all,
+  λ files is.
+      renumber-some (are_other bytes (file_at (side_path folder false key) files)) (are_other bytes (file_at (side_path folder true key) files)) n k m _ _ _ _ name refl refl refl refl refl refl (taken files is),
+)
 renumber-key folder puts n m key bytes a b (Err Fault) some = some
 renumber-key folder puts n m key bytes a b (Err NoMemory) some = some
 
@@ -213,9 +229,17 @@ renumber-one-none false x x' none = refl
 
 pub renumber-name : {T : Type 0} (folder : List ℕ) (puts : List MemFile) (n m : ℕ) (name bytes : List ℕ) (a b : Store) (r : Result T PutErr)
     → Ends folder puts n (name_tests n name bytes) a b r → Ends folder puts m (name_tests m name bytes) a b r
-renumber-name folder puts n m name bytes a b (Ok done) (all, free) = (all, λ files is.
-    renumber-one-none (are_other bytes (file_at (path folder name) files)) _ _ (free files is))
-renumber-name folder puts n m name bytes a b (Err (Taken taken-name)) (k, few, all, taken) = (k, few, all, λ files is.
-    renumber-one (are_other bytes (file_at (path folder name) files)) n k m _ _ taken-name refl refl refl (taken files is))
+renumber-name folder puts n m name bytes a b (Ok done) (all, free) = (
+  all,
+  λ files is.
+      renumber-one-none (are_other bytes (file_at (path folder name) files)) _ _ (free files is),
+)
+renumber-name folder puts n m name bytes a b (Err (Taken taken-name)) (k, few, all, taken) = (
+  k,
+  few,
+  all,
+  λ files is.
+      renumber-one (are_other bytes (file_at (path folder name) files)) n k m _ _ taken-name refl refl refl (taken files is),
+)
 renumber-name folder puts n m name bytes a b (Err Fault) some = some
 renumber-name folder puts n m name bytes a b (Err NoMemory) some = some

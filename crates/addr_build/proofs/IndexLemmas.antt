@@ -35,8 +35,8 @@ pub index-is : (p : Project) (plan : Plan) (rows : List BundleRow) (assets : Lis
     → (bundles : List ReleaseBundle) → EachAt (IsBundleOf p plan) bundles → length bundles ≡ length plan.bundles → rows ≡ map (λ m. m.row) bundles → IndexOf p plan bundles state-items catalogue-items
 index-is p plan rows assets state catalogue told named state-items catalogue-items (s, for, text, again) entries same digest listed alike one two bundles each many rows-are =
     let d : named ≡ digest_from state = ap (λ (b : List ℕ). let x : Digest = record { 0 = b } in x) (digest ∙ ap digest_of same) in
-    let cat : catalogue_for rows assets named ≡ catalogue_of bundles assets (Some (digest_from state)) = ap₂ (λ rs x. catalogue_for rs assets x) rows-are d in
-    (record { bundles = bundles; assets = assets; state = s; state_bytes = state; catalogue = catalogue },
+    let cat : catalogue_for rows assets named ≡ catalogue_of bundles assets (Some (digest_from state)) = ap₂ (λ rs x. catalogue_for rs assets x) rows-are d in (
+      record { bundles = bundles; assets = assets; state = s; state_bytes = state; catalogue = catalogue },
       record {
         rows = record { as_many = many; each = each; entries = entries };
         told = for bundles (sym rows-are) each;
@@ -44,4 +44,8 @@ index-is p plan rows assets state catalogue told named state-items catalogue-ite
         again = again;
         listed = listed ∙ ap catalogue_text cat;
         alike = subst (ReadsAlike catalogue) cat alike;
-      }, refl, sym one, sym two)
+      },
+      refl,
+      sym one,
+      sym two,
+    )

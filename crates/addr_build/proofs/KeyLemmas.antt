@@ -69,7 +69,7 @@ module _ (p : Project) (plan : Plan) (placed : IsPlaced p plan) where
   keys-apart b c x y one two less same =
       let names = key-name one.bundle.name two.bundle.name (digest_from x.file) (digest_from y.file) (digests-fit x.file) (digests-fit y.file) (sym one.told.key ∙ same ∙ two.told.key) in
       let number : b ≡ c = sorted-once nat_list_cmp_total (map (λ (b : PlanBundle). b.name) plan.bundles) placed.by_name b c two.bundle.name
-          (to_map (λ (b : PlanBundle). b.name) plan.bundles b one.bundle one.at ∙ ap Some names) (to_map (λ (b : PlanBundle). b.name) plan.bundles c two.bundle two.at) in
+      (to_map (λ (b : PlanBundle). b.name) plan.bundles b one.bundle one.at ∙ ap Some names) (to_map (λ (b : PlanBundle). b.name) plan.bundles c two.bundle two.at) in
       omega (arith, less, number)
 
   module _ (folder : List ℕ) (bundles : List ReleaseBundle) (each : EachAt (IsBundleOf p plan) bundles) where
@@ -88,5 +88,8 @@ module _ (p : Project) (plan : Plan) (placed : IsPlaced p plan) where
 
     -- and none that is tested for the state
     pub state-beside : (n : ℕ) (bytes : List ℕ) → Apart folder (map (bundle_put folder) bundles) (state_test n bytes ∷ [])
-    state-beside n bytes = (all-puts (λ f. f.name ≢ path folder (state_file (Some (digest_from bytes)))) bundles (λ k x at same.
-        state-apart (digest_from bytes) x.remote x.row.key (path-same folder (side_folder x.remote ++ x.row.key) (state_file (Some (digest_from bytes))) same)), tt)
+    state-beside n bytes = (
+      all-puts (λ f. f.name ≢ path folder (state_file (Some (digest_from bytes)))) bundles (λ k x at same.
+          state-apart (digest_from bytes) x.remote x.row.key (path-same folder (side_folder x.remote ++ x.row.key) (state_file (Some (digest_from bytes))) same)),
+      tt,
+    )

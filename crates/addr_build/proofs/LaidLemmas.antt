@@ -103,8 +103,8 @@ module _ (p : Project) (plan : Plan) (folder : List ℕ) where
           subst (λ ps. Ends folder ps 0 (all_bundle_tests (laid.bundles ++ made ∷ [])) old new result) (sym (grown made))
           (subst (λ ts. Ends folder (xs ++ (bundle_put folder made ∷ [])) 0 ts old new result) (sym (tests-push laid.bundles made))
           (ends-then folder xs (bundle_put folder made ∷ []) 0 (length laid.bundles) (all_bundle_tests laid.bundles) (bundle_tests (length laid.bundles) made) old cur new
-            xs-many (bundle-apart p plan placed folder laid.bundles laid.each made is (length laid.bundles)) laid.lays laid.free result
-            (renumber-key folder (bundle_put folder made ∷ []) 0 (length laid.bundles) made.row.key made.file cur new result ends)))
+          xs-many (bundle-apart p plan placed folder laid.bundles laid.each made is (length laid.bundles)) laid.lays laid.free result
+          (renumber-key folder (bundle_put folder made ∷ []) 0 (length laid.bundles) made.row.key made.file cur new result ends)))
 
       -- what stands under the name of its put stood there before
       own-before : (files mid : List MemFile) → old.files ≡ Some files → cur.files ≡ Some mid → file_at (bundle_put folder made).name mid ≡ file_at (bundle_put folder made).name files
@@ -127,11 +127,11 @@ module _ (p : Project) (plan : Plan) (folder : List ℕ) where
         lays = (joined (Ok one) ends).0;
         free = (joined (Ok one) ends).1;
         count = λ files at. (
-          let (mid, now, passes) = laid.lays.some.told files at in
-          let here = subst (λ o. MatchBool one.put (o ≡ None) (o ≡ Some made.file)) (own-before files mid at now) (owed mid now) in
-          ap (λ n. n + cond one.put 1 0) (laid.count files at)
-          ∙ sym (count-push files xs (bundle_put folder made) one.put (owed-there files (bundle_put folder made) one.put here))
-          ∙ ap (count_owed files) (sym (grown made)));
+            let (mid, now, passes) = laid.lays.some.told files at in
+            let here = subst (λ o. MatchBool one.put (o ≡ None) (o ≡ Some made.file)) (own-before files mid at now) (owed mid now) in
+            ap (λ n. n + cond one.put 1 0) (laid.count files at)
+            ∙ sym (count-push files xs (bundle_put folder made) one.put (owed-there files (bundle_put folder made) one.put here))
+            ∙ ap (count_owed files) (sym (grown made)));
       }
 
     pub laid-next : (b : ℕ) (one : PutBundle) → b ≡ length laid.bundles → PutsOne p plan folder b cur new (Ok one) → AreLaid p plan folder old new (rows ++ one.row ∷ []) (put + cond one.put 1 0)
@@ -143,9 +143,11 @@ module _ (p : Project) (plan : Plan) (folder : List ℕ) where
 
     pub laid-stops : (b : ℕ) (e : PutErr) → b ≡ length laid.bundles → PutsOne p plan folder b cur new (Err e) → StopsIn p plan folder old new e
     laid-stops b e number (inl (made, is, ends)) =
-        let here = subst (λ k. IsBundleOf p plan k made) number is in
-        (laid.bundles ++ made ∷ [], EachAt-push (IsBundleOf p plan) laid.bundles made laid.each here,
-          ends-as PutBundle PutBundles folder (map (bundle_put folder) (laid.bundles ++ made ∷ [])) 0 (all_bundle_tests (laid.bundles ++ made ∷ [])) old new e (joined made here {T = PutBundle} (Err e) ends))
+        let here = subst (λ k. IsBundleOf p plan k made) number is in (
+          laid.bundles ++ made ∷ [],
+          EachAt-push (IsBundleOf p plan) laid.bundles made laid.each here,
+          ends-as PutBundle PutBundles folder (map (bundle_put folder) (laid.bundles ++ made ∷ [])) 0 (all_bundle_tests (laid.bundles ++ made ∷ [])) old new e (joined made here {T = PutBundle} (Err e) ends),
+        )
     laid-stops b e number (inr (same, memory)) =
         subst (StopsIn p plan folder old new) (sym memory) (laid.bundles, laid.each, stays)
       where
@@ -165,7 +167,11 @@ pub made-bundle : (p : Project) (plan : Plan) (b : ℕ) (bundle : PlanBundle) (r
     → ((group : Group) × (slice_get p.groups bundle.group ≡ Some group) × (remote ≡ group.remote)) → IsFileOf p plan b text → slice ≡ text → IsRowOf p remote bundle slice row → file ≡ text
     → IsBundleOf p plan b (record { remote = remote; row = row; file = file })
 made-bundle p plan b bundle remote row text slice file at (group, grouped, side) is same told taken = record {
-  bundle = bundle; at = at; group = group; group_at = grouped; side = side;
+  bundle = bundle;
+  at = at;
+  group = group;
+  group_at = grouped;
+  side = side;
   is = subst (IsFileOf p plan b) (sym taken) is;
   told = subst (λ f. IsRowOf p group.remote bundle f row) (same ∙ sym taken) (subst (λ r. IsRowOf p r bundle slice row) side told);
 }

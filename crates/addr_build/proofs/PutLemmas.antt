@@ -91,9 +91,13 @@ passes-back xs ys old mid n j [] end first from (k, later, few, at) =
     let long = length-append xs ys in
     (length xs + k, omega (arith, from, later), omega (arith, few, long), subst (λ ps. IsAfter ps old end) (sym (take-append-add xs ys k)) (after-then xs (take k ys) old mid end first at))
 passes-back xs ys old mid n j (files ∷ ms) end first from (k, later, small, during, rest) =
-    let long = length-append xs ys in
-    (length xs + k, omega (arith, from, later), omega (arith, small, long), during-back xs ys old mid files k first during,
-      passes-back xs ys old mid (length xs + k) k ms end first (omega arith) rest)
+    let long = length-append xs ys in (
+      length xs + k,
+      omega (arith, from, later),
+      omega (arith, small, long),
+      during-back xs ys old mid files k first during,
+      passes-back xs ys old mid (length xs + k) k ms end first (omega arith) rest,
+    )
 
 passes-join : (xs ys old mid end' : List MemFile) (n : ℕ) (ms ms' : List (List MemFile)) (end : List MemFile) → n ≤ length xs → IsAfter xs old mid
     → Passes xs old n ms end' → Passes ys mid 0 ms' end → Passes (xs ++ ys) old n (ms ++ ms') end
@@ -115,7 +119,9 @@ lays-none old new same = record {
 
 pub lays-some-none : (puts : List MemFile) (old new : Store) → SameStore old new → LaysSome puts old new
 lays-some-none puts old new same = record {
-  passed = []; past = same.past ∙ sym (append-nil old.past); told = λ before is. (before, same.files ∙ is, (0, omega arith, omega arith, after-none before));
+  passed = [];
+  past = same.past ∙ sym (append-nil old.past);
+  told = λ before is. (before, same.files ∙ is, (0, omega arith, omega arith, after-none before));
 }
 
 pub lays-then : (xs ys : List MemFile) (a b c : Store) → LaysAll xs a b → LaysSome ys b c → LaysSome (xs ++ ys) a c
@@ -123,22 +129,23 @@ lays-then xs ys a b c first second = record {
   passed = first.some.passed ++ second.passed;
   past = second.past ∙ ap (λ past. past ++ second.passed) first.some.past ∙ append_assoc a.past first.some.passed second.passed;
   told = λ before is. (
-    let (mid, at, one) = first.some.told before is in
-    let (after, now, two) = second.told mid at in
-    (after, now, passes-join xs ys before mid mid 0 first.some.passed second.passed after (omega arith) (first.all before mid is at) one two));
+      let (mid, at, one) = first.some.told before is in
+      let (after, now, two) = second.told mid at in
+      (after, now, passes-join xs ys before mid mid 0 first.some.passed second.passed after (omega arith) (first.all before mid is at) one two));
 }
 
 pub lays-all-then : (xs ys : List MemFile) (a b c : Store) → LaysAll xs a b → LaysAll ys b c → LaysAll (xs ++ ys) a c
 lays-all-then xs ys a b c first second = record {
   some = lays-then xs ys a b c first second.some;
   all = λ before after is now. (
-    let (mid, at, one) = first.some.told before is in
-    after-then xs ys before mid after (first.all before mid is at) (second.all mid after at now));
+      let (mid, at, one) = first.some.told before is in
+      after-then xs ys before mid after (first.all before mid is at) (second.all mid after at now));
 }
 
 pub lays-more : (xs ys : List MemFile) (a b : Store) → LaysSome xs a b → LaysSome (xs ++ ys) a b
 lays-more xs ys a b some = record {
-  passed = some.passed; past = some.past;
+  passed = some.passed;
+  past = some.past;
   told = λ before is. (let (after, now, passes) = some.told before is in (after, now, passes-more xs ys before 0 some.passed after passes));
 }
 
@@ -171,19 +178,20 @@ told-at (Some y) P x is holds = let same : y ≡ x = cc is in subst P same holds
 
 pub put-some : {T : Type 0} (name bytes : List ℕ) (old new : Store) (result : Result T DepotErr) → PutsAt name bytes old new result → LaysSome (file_of name bytes ∷ []) old new
 put-some name bytes old new result puts = record {
-  passed = puts.passed; past = puts.past;
+  passed = puts.passed;
+  past = puts.past;
   told = λ before is. (
-    let (after, now, put) = told-put old.files new.files (λ b a. Puts name bytes b a result) puts.files before is in
-    (after, now, passes-put name bytes before puts.passed after (told-at old.files (λ b. All (IsPutOrSame name bytes b) puts.passed) before is puts.each) (puts-either name bytes before after result put)));
+      let (after, now, put) = told-put old.files new.files (λ b a. Puts name bytes b a result) puts.files before is in
+      (after, now, passes-put name bytes before puts.passed after (told-at old.files (λ b. All (IsPutOrSame name bytes b) puts.passed) before is puts.each) (puts-either name bytes before after result put)));
 }
 
 pub put-all : {T : Type 0} (name bytes : List ℕ) (old new : Store) (done : T) → PutsAt name bytes old new (Ok done) → LaysAll (file_of name bytes ∷ []) old new
 put-all name bytes old new done puts = record {
   some = put-some name bytes old new (Ok done) puts;
   all = λ before after is now. (
-    let (other, at, put) = told-put old.files new.files (λ b a. IsPut name bytes b a) puts.files before is in
-    let same : other ≡ after = (let e : Some other ≡ Some after = sym at ∙ now in cc e) in
-    subst (IsAfter (file_of name bytes ∷ []) before) same (after-put name bytes before other put));
+      let (other, at, put) = told-put old.files new.files (λ b a. IsPut name bytes b a) puts.files before is in
+      let same : other ≡ after = (let e : Some other ≡ Some after = sym at ∙ now in cc e) in
+      subst (IsAfter (file_of name bytes ∷ []) before) same (after-put name bytes before other put));
 }
 
 -- a store that stays, where the file is there
@@ -191,8 +199,8 @@ pub there-all : (name bytes : List ℕ) (old new : Store) → SameStore old new 
 there-all name bytes old new same there = record {
   some = lays-some-none (file_of name bytes ∷ []) old new same;
   all = λ before after is now. (
-    let e : before ≡ after = (let e : Some before ≡ Some after = sym is ∙ sym same.files ∙ now in cc e) in
-    subst (IsAfter (file_of name bytes ∷ []) before) e (after-there name bytes before (there before is)));
+      let e : before ≡ after = (let e : Some before ≡ Some after = sym is ∙ sym same.files ∙ now in cc e) in
+      subst (IsAfter (file_of name bytes ∷ []) before) e (after-there name bytes before (there before is)));
 }
 
 -- ---- answers of a put

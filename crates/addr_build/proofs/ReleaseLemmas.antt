@@ -39,9 +39,12 @@ last-tests n state = name_tests n (state_file (Some (digest_from state))) state
 module _ (p : Project) (plan : Plan) (folder : List ℕ) where
   -- bundles that stopped
   pub stopped-release : (old new : Store) (e : PutErr) → StopsIn p plan folder old new e → PutsRelease p plan folder old new (Err e)
-  stopped-release old new e (bundles, each, ends) =
-      (map (bundle_put folder) bundles, all_bundle_tests bundles, inl (bundles, each, refl, refl),
-        ends-as PutBundles Summary folder (map (bundle_put folder) bundles) 0 (all_bundle_tests bundles) old new e ends)
+  stopped-release old new e (bundles, each, ends) = (
+    map (bundle_put folder) bundles,
+    all_bundle_tests bundles,
+    inl (bundles, each, refl, refl),
+    ends-as PutBundles Summary folder (map (bundle_put folder) bundles) 0 (all_bundle_tests bundles) old new e ends,
+  )
 
   module _ (placed : IsPlaced p plan) (old mid new : Store) (rows : List BundleRow) (put : ℕ) (laid : AreLaid p plan folder old mid rows put) where
     -- memory was refused behind the bundles
@@ -62,18 +65,22 @@ module _ (p : Project) (plan : Plan) (folder : List ℕ) where
           subst (λ ps. Ends folder ps 0 (tests_of r) old new result) puts-same
           (subst (λ ts. Ends folder (map (bundle_put folder) laid.bundles ++ last-puts folder r.state_bytes r.catalogue) 0 ts old new result) tests-same
           (ends-then folder (map (bundle_put folder) laid.bundles) (last-puts folder r.state_bytes r.catalogue) 0 (length laid.bundles) (all_bundle_tests laid.bundles) (last-tests (length laid.bundles) r.state_bytes) old mid new
-            (let e : 0 + length (map (bundle_put folder) laid.bundles) ≡ length (map (bundle_put folder) laid.bundles) = omega arith in e ∙ length-map laid.bundles (bundle_put folder))
-            (state-beside p plan placed folder laid.bundles laid.each (length laid.bundles) r.state_bytes) laid.lays laid.free result
-            (renumber-name folder (last-puts folder r.state_bytes r.catalogue) 0 (length laid.bundles) (state_file (Some (digest_from r.state_bytes))) r.state_bytes mid new result ends)))
+          (let e : 0 + length (map (bundle_put folder) laid.bundles) ≡ length (map (bundle_put folder) laid.bundles) = omega arith in e ∙ length-map laid.bundles (bundle_put folder))
+          (state-beside p plan placed folder laid.bundles laid.each (length laid.bundles) r.state_bytes) laid.lays laid.free result
+          (renumber-name folder (last-puts folder r.state_bytes r.catalogue) 0 (length laid.bundles) (state_file (Some (digest_from r.state_bytes))) r.state_bytes mid new result ends)))
 
     -- the puts of the whole release
     pub release-put : {T : Type 0} (state catalogue s c : List ℕ) (result : Result T PutErr) → IndexOf p plan laid.bundles state catalogue → s ≡ state → c ≡ catalogue
         → Ends folder (last-puts folder s c) 0 (last-tests 0 s) mid new result
         → (r : Release) × IsReleaseIn p plan r × (r.bundles ≡ laid.bundles) × Ends folder (puts_of folder r) 0 (tests_of r) old new result
-    release-put state catalogue s c result (r, is, bundles, told, listed) one two ends =
-        (r, is, bundles, release-ends r bundles result
+    release-put state catalogue s c result (r, is, bundles, told, listed) one two ends = (
+      r,
+      is,
+      bundles,
+      release-ends r bundles result
           (subst (λ x. Ends folder (last-puts folder x r.catalogue) 0 (last-tests 0 x) mid new result) (one ∙ sym told)
-          (subst (λ x. Ends folder (last-puts folder s x) 0 (last-tests 0 s) mid new result) (two ∙ sym listed) ends)))
+          (subst (λ x. Ends folder (last-puts folder s x) 0 (last-tests 0 s) mid new result) (two ∙ sym listed) ends)),
+    )
 
     pub release-stopped : (state catalogue s c : List ℕ) (e : PutErr) → IndexOf p plan laid.bundles state catalogue → s ≡ state → c ≡ catalogue
         → Ends {T = Unit {0}} folder (last-puts folder s c) 0 (last-tests 0 s) mid new (Err e) → PutsRelease p plan folder old new (Err e)
@@ -85,10 +92,14 @@ module _ (p : Project) (plan : Plan) (folder : List ℕ) where
         → Ends {T = Unit {0}} folder (last-puts folder s c) 0 (last-tests 0 s) mid new (Ok done)
         → summary.moved ≡ 0 → summary.bundles ≡ length plan.bundles → summary.put ≡ put → summary.rows ≡ length p.entries → PutsRelease p plan folder old new (Ok summary)
     release-done state catalogue s c done summary index one two ends moved many owed rows_many =
-        let (r, is, bundles, whole) = release-put {T = Unit {0}} state catalogue s c (Ok done) index one two ends in
-        (r, is, whole, λ files at. record {
-          moved = moved;
-          bundles = many ∙ sym is.rows.as_many;
-          put = owed ∙ laid.count files at ∙ ap (λ bs. count_owed files (map (bundle_put folder) bs)) (sym bundles);
-          rows = rows_many ∙ zip-lengths (IsEntryRow p plan) p.entries r.assets is.rows.entries;
-        })
+        let (r, is, bundles, whole) = release-put {T = Unit {0}} state catalogue s c (Ok done) index one two ends in (
+          r,
+          is,
+          whole,
+          λ files at. record {
+            moved = moved;
+            bundles = many ∙ sym is.rows.as_many;
+            put = owed ∙ laid.count files at ∙ ap (λ bs. count_owed files (map (bundle_put folder) bs)) (sym bundles);
+            rows = rows_many ∙ zip-lengths (IsEntryRow p plan) p.entries r.assets is.rows.entries;
+          },
+        )

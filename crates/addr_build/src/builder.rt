@@ -60,6 +60,13 @@ pub fn build<D: Depot>(alloc: Global, depot: &mut D, folder: &str) -> Result<Sum
     ensures cause { BuildRose (D.now depot.old).faults (D.now depot.new).faults result }
 {
     let made = prepare(alloc, depot, folder)?;
-    let summary = put_release(alloc, depot, folder, &made.project, &made.placement, &made.layout)?;
+    let summary = put_release(
+        alloc,
+        depot,
+        folder,
+        &made.project,
+        &made.placement,
+        &made.layout,
+    )?;
     Ok(summary)
 }

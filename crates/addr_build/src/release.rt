@@ -16,8 +16,8 @@ use addr_pack::Plan;
 use addr_project::Project;
 use std::alloc::Global;
 
-/// What was built: how many bundles the release has, how many of their files were put since they weren't there, and how many
-/// rows of assets. A full build moves no entry.
+/// What was built: how many bundles the release has, how many of their files were put since they weren't there, and how
+/// many rows of assets. A full build moves no entry.
 #[derive(Clone, Copy, Debug, PartialEq, Eq)]
 pub struct Summary {
     pub moved: u32,
@@ -50,6 +50,12 @@ pub(crate) fn put_release<D: Depot>(
         rows: project.entries().len() as u32,
     };
     let index = index_of(alloc, project, plan, layout, laid.rows)?;
-    put_state_and_catalogue(alloc, depot, folder, index.state.as_slice(), index.catalogue.as_slice())?;
+    put_state_and_catalogue(
+        alloc,
+        depot,
+        folder,
+        index.state.as_slice(),
+        index.catalogue.as_slice(),
+    )?;
     Ok(summary)
 }

@@ -41,7 +41,9 @@ const PUTS: [u32; 8] = [18, 21, 24, 27, 30, 32, 34, 36];
 
 fn folder(alloc: Global, project: &str) -> Result<MemDepot, NoMemory> {
     let mut depot = MemDepot::new(Vec::new(alloc), Vec::new(alloc));
-    if depot.put(alloc, "F/project.toml", project.as_bytes()).is_err()
+    if depot
+        .put(alloc, "F/project.toml", project.as_bytes())
+        .is_err()
         || depot.put(alloc, "F/a", b"A").is_err()
     {
         return Err(NoMemory);
@@ -49,8 +51,8 @@ fn folder(alloc: Global, project: &str) -> Result<MemDepot, NoMemory> {
     Ok(depot)
 }
 
-fn has_built(result: Result<Summary, BuildErr>, put: u32) -> bool {
-    match result {
+fn has_built(answer: Result<Summary, BuildErr>, put: u32) -> bool {
+    match answer {
         Ok(summary) => summary
             == Summary {
                 moved: 0,
@@ -62,8 +64,8 @@ fn has_built(result: Result<Summary, BuildErr>, put: u32) -> bool {
     }
 }
 
-fn is_fault(result: Result<Summary, BuildErr>) -> bool {
-    match result {
+fn is_fault(answer: Result<Summary, BuildErr>) -> bool {
+    match answer {
         Err(BuildErr::DepotFault) => true,
         _ => false,
     }
