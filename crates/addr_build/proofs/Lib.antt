@@ -5,3 +5,4 @@ pub mod LaidLemmas
 pub mod ReleaseLemmas
 pub mod BuildLemmas
 pub mod IndexLemmas
+pub mod CatalogueLemmas

@@ -37,9 +37,11 @@ abbrev pub PutsOne : Project → Plan → List ℕ → ℕ → Store → Store �
 PutsOne p plan folder b old new (Ok one) = (made : ReleaseBundle) × IsBundleOf p plan b made × (one.row ≡ made.row)
     × Ends folder (bundle_put folder made ∷ []) 0 (bundle_tests 0 made) old new (Ok one)
     × ((files : List MemFile) → old.files ≡ Some files
-    → MatchBool one.put (file_at (bundle_put folder made).name files ≡ None) (file_at (bundle_put folder made).name files ≡ Some made.file))
+    → MatchBool one.put (file_at (bundle_put folder made).name files ≡ None)
+    (file_at (bundle_put folder made).name files ≡ Some made.file))
 PutsOne p plan folder b old new (Err e) =
-    ((made : ReleaseBundle) × IsBundleOf p plan b made × Ends {T = PutBundle} folder (bundle_put folder made ∷ []) 0 (bundle_tests 0 made) old new (Err e))
+    ((made : ReleaseBundle) × IsBundleOf p plan b made
+    × Ends {T = PutBundle} folder (bundle_put folder made ∷ []) 0 (bundle_tests 0 made) old new (Err e))
     ⊎ (SameStore old new × (e ≡ NoMemory))
 
 -- the first bundles of a project's release were put, and none of their names was taken

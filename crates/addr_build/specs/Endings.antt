@@ -24,7 +24,8 @@ name_tests n name bytes = record { number = n; name = name; bytes = bytes } ∷ 
 
 -- the first name that is taken, as a refusal tells it, and the number of its put
 abbrev pub IsTakenFirst : List MemFile → List ℕ → List Test → ℕ → List ℕ → Type 0
-IsTakenFirst files folder tests n name = (test : Test) × (first_taken files folder tests ≡ Some test) × (test.number ≡ n) × (test.name ≡ name)
+IsTakenFirst files folder tests n name = (test : Test) × (first_taken files folder tests ≡ Some test)
+    × (test.number ≡ n) × (test.name ≡ name)
 
 -- what tests of names answer before a file is put: whether it has still to be put, or the first name that is taken
 abbrev pub Tells : List MemFile → List ℕ → List Test → List ℕ → List ℕ → Result Bool PutErr → Type 0

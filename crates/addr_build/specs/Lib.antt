@@ -7,3 +7,4 @@ pub mod Building
 pub mod Release
 pub mod Outcomes
 pub mod Index
+pub mod Laws

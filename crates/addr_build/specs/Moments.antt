@@ -12,7 +12,8 @@ IsDuring puts n old files = IsAfter (take n puts) old files ⊎ IsAfter (take (n
 -- the end is as after that many puts or more
 abbrev pub Passes : List MemFile → List MemFile → ℕ → List (List MemFile) → List MemFile → Type 0
 Passes puts old n [] end = (k : ℕ) × (n ≤ k) × (k ≤ length puts) × IsAfter (take k puts) old end
-Passes puts old n (files ∷ later) end = (k : ℕ) × (n ≤ k) × (k < length puts) × IsDuring puts k old files × Passes puts old k later end
+Passes puts old n (files ∷ later) end = (k : ℕ) × (n ≤ k) × (k < length puts)
+    × IsDuring puts k old files × Passes puts old k later end
 
 -- some of these files were put, in this order
 pub record LaysSome (puts : List MemFile) (old new : Store) : Type 0 where

@@ -49,13 +49,15 @@ pub record IsBuilt (folder : List ℕ) (old new : List MemFile) (summary : Summa
 -- project, and each is as after some first puts of its release
 abbrev pub IsBuilding : List ℕ → List MemFile → List (List MemFile) → List MemFile → Type 0
 IsBuilding folder old passed new = ((passed ≡ []) × (new ≡ old))
-    ⊎ ((p : Contents) × ProjectOf old folder p × (puts : List MemFile) × (tests : List Test) × IsBegun p folder puts tests × Passes puts old 0 passed new)
+    ⊎ ((p : Contents) × ProjectOf old folder p
+    × (puts : List MemFile) × (tests : List Test) × IsBegun p folder puts tests × Passes puts old 0 passed new)
 
 -- what stands at each moment of a build: no earlier moment changes, and those that passed are moments of a build
 pub record Builds (folder : List ℕ) (old new : Store) : Type 0 where
   pub passed : List (List MemFile)
   pub past : new.past ≡ old.past ++ passed
-  pub told : (files : List MemFile) → old.files ≡ Some files → (after : List MemFile) × (new.files ≡ Some after) × IsBuilding folder files passed after
+  pub told : (files : List MemFile) → old.files ≡ Some files
+      → (after : List MemFile) × (new.files ≡ Some after) × IsBuilding folder files passed after
 
 -- what a build answers where files are told: each refusal has its cause, and a taken name is the first, with exactly the
 -- puts before it made
@@ -63,7 +65,8 @@ abbrev pub Answers : List ℕ → List MemFile → List MemFile → Result Summa
 Answers folder old new (Ok summary) = IsBuilt folder old new summary
 Answers folder old new (Err (Project fault)) = ProjectFault old folder fault
 Answers folder old new (Err (TooLarge which n)) = (p : Contents) × ProjectOf old folder p × IsTooLarge p which n
-Answers folder old new (Err (NameTaken name)) = (p : Contents) × ProjectOf old folder p × (puts : List MemFile) × (tests : List Test) × IsBegun p folder puts tests
+Answers folder old new (Err (NameTaken name)) = (p : Contents) × ProjectOf old folder p
+    × (puts : List MemFile) × (tests : List Test) × IsBegun p folder puts tests
     × ((k : ℕ) × (k < length puts) × IsAfter (take k puts) old new × IsTakenFirst old folder tests k name)
 Answers folder old new (Err DepotFault) = Unit {0}
 Answers folder old new (Err NoMemory) = Unit {0}

@@ -16,7 +16,8 @@ use Rattle.addr_build.specs.declared.release.Summary.{Summary}
 -- the puts of what was made, and the tests of their names
 abbrev pub IsBegunIn : Project → Plan → List ℕ → List MemFile → List Test → Type 0
 IsBegunIn p plan folder puts tests =
-    ((bundles : List ReleaseBundle) × EachAt (IsBundleOf p plan) bundles × (puts ≡ map (bundle_put folder) bundles) × (tests ≡ all_bundle_tests bundles))
+    ((bundles : List ReleaseBundle) × EachAt (IsBundleOf p plan) bundles
+    × (puts ≡ map (bundle_put folder) bundles) × (tests ≡ all_bundle_tests bundles))
     ⊎ ((r : Release) × IsReleaseIn p plan r × (puts ≡ puts_of folder r) × (tests ≡ tests_of r))
 
 -- the numbers of a build of this release
@@ -29,6 +30,7 @@ pub record Sums (folder : List ℕ) (old : List MemFile) (r : Release) (summary 
 -- what putting the release answers and leaves
 abbrev pub PutsRelease : Project → Plan → List ℕ → Store → Store → Result Summary PutErr → Type 0
 PutsRelease p plan folder old new (Ok summary) = (r : Release) × IsReleaseIn p plan r
-    × Ends folder (puts_of folder r) 0 (tests_of r) old new (Ok summary) × ((files : List MemFile) → old.files ≡ Some files → Sums folder files r summary)
+    × Ends folder (puts_of folder r) 0 (tests_of r) old new (Ok summary)
+    × ((files : List MemFile) → old.files ≡ Some files → Sums folder files r summary)
 PutsRelease p plan folder old new (Err e) = (puts : List MemFile) × (tests : List Test) × IsBegunIn p plan folder puts tests
     × Ends {T = Summary} folder puts 0 tests old new (Err e)

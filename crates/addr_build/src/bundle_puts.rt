@@ -80,8 +80,8 @@ fn put_below<D: Depot>(
     Ok(())
 }
 
-/// Puts a bundle's file on its side under its key, after its name was tested on both sides, and answers whether it was put:
-/// a file that is there isn't put again.
+/// Puts a bundle's file on its side under its key, after its name was tested on both sides, and answers whether it was
+/// put: a file that is there isn't put again.
 pub fn put_bundle<D: Depot>(
     alloc: Global,
     depot: &mut D,

@@ -31,7 +31,8 @@ pub fn put_state<D: Depot>(
     bytes: &[u8],
 ) -> Result<bool, PutErr>
     ensures ends { Ends folder.now (state_put folder.now bytes.now ∷ []) 0
-        (name_tests 0 (state_file (Some (digest_from bytes.now))) bytes.now) (D.now depot.old) (D.now depot.new) result }
+        (name_tests 0 (state_file (Some (digest_from bytes.now))) bytes.now)
+        (D.now depot.old) (D.now depot.new) result }
     ensures cause { PutRose (D.now depot.old).faults (D.now depot.new).faults result }
 {
     let name = state_name(alloc, bytes)?;
@@ -65,7 +66,8 @@ fn digits_of(alloc: Global, bytes: &[u8]) -> Result<Text, NoMemory>
     Ok(Text::from_string(digits))
 }
 
-/// Puts a catalogue, at which the release changes, and then the file that holds its digest. Neither is put where it is there.
+/// Puts a catalogue, at which the release changes, and then the file that holds its digest, each only where it isn't
+/// there.
 pub fn put_catalogue<D: Depot>(
     alloc: Global,
     depot: &mut D,
@@ -97,8 +99,10 @@ pub fn put_state_and_catalogue<D: Depot>(
     catalogue: &[u8],
 ) -> Result<(), PutErr>
     ensures ends { Ends folder.now
-        (state_put folder.now state.now ∷ catalogue_put folder.now catalogue.now ∷ hash_put folder.now catalogue.now ∷ []) 0
-        (name_tests 0 (state_file (Some (digest_from state.now))) state.now) (D.now depot.old) (D.now depot.new) result }
+        (state_put folder.now state.now
+        ∷ catalogue_put folder.now catalogue.now ∷ hash_put folder.now catalogue.now ∷ []) 0
+        (name_tests 0 (state_file (Some (digest_from state.now))) state.now)
+        (D.now depot.old) (D.now depot.new) result }
     ensures cause { PutRose (D.now depot.old).faults (D.now depot.new).faults result }
 {
     put_state(alloc, depot, folder, state)?;

@@ -16,8 +16,8 @@ use addr_pack::Plan;
 use addr_project::Project;
 use std::alloc::Global;
 
-/// What was built: how many bundles the release has, how many of their files were put since they weren't there, and how many
-/// rows of assets. A full build moves no entry.
+/// What was built: how many bundles the release has, how many of their files were put since they weren't there, and how
+/// many rows of assets. A full build moves no entry.
 #[derive(Clone, Copy, Debug, PartialEq, Eq)]
 pub struct Summary {
     pub moved: u32,

@@ -51,8 +51,8 @@ fn folder(alloc: Global, project: &str) -> Result<MemDepot, NoMemory> {
     Ok(depot)
 }
 
-fn has_built(result: Result<Summary, BuildErr>, put: u32) -> bool {
-    match result {
+fn has_built(answer: Result<Summary, BuildErr>, put: u32) -> bool {
+    match answer {
         Ok(summary) => summary
             == Summary {
                 moved: 0,
@@ -64,8 +64,8 @@ fn has_built(result: Result<Summary, BuildErr>, put: u32) -> bool {
     }
 }
 
-fn is_fault(result: Result<Summary, BuildErr>) -> bool {
-    match result {
+fn is_fault(answer: Result<Summary, BuildErr>) -> bool {
+    match answer {
         Err(BuildErr::DepotFault) => true,
         _ => false,
     }

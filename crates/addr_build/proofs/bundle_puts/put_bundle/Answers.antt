@@ -1,8 +1,8 @@
-use Rattle.std.proofs.Common.{arith, Bool, Ok, Err, IfSome, [], ◌∷◌, subst, sym}
+use Rattle.std.proofs.Common.{arith, Bool, Ok, IfSome, [], ◌∷◌, subst, sym}
 use Rattle.addr_release.specs.Names.{side_path}
 use Rattle.addr_build.specs.Endings.{Ends, Tells, key_tests}
 use Rattle.addr_build.specs.Putting.{file_of}
-use Rattle.addr_build.proofs.EndLemmas.{ends-refused, ends-there, ends-put, err-is}
+use Rattle.addr_build.proofs.EndLemmas.{ends-refused, ends-there, err-is}
 use Rattle.addr_build.proofs.bundle_puts.put_bundle.Goals as goal
 
 pub returns-in_err-is_owed_anywhere-clause-ends : goal.returns-in_err-is_owed_anywhere-clause-ends

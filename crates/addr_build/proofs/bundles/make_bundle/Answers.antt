@@ -1,4 +1,4 @@
-use Rattle.std.proofs.Common.{◌≡◌, ◌<◌, length, ap, subst, sym, ◌∙◌, arith}
+use Rattle.std.proofs.Common.{◌<◌, length, ap, arith}
 use Rattle.addr_layout.proofs.RankLemmas.{read-at}
 use Rattle.addr_build.proofs.LaidLemmas.{group-within, made-bundle}
 use Rattle.addr_build.proofs.bundles.make_bundle.Goals as goal

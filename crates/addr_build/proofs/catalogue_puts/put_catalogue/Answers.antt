@@ -1,4 +1,4 @@
-use Rattle.std.proofs.Common.{◌≡◌, ◌∙◌, [], ◌∷◌, subst}
+use Rattle.std.proofs.Common.{◌∙◌, [], ◌∷◌, subst}
 use Rattle.addr_release.specs.Names.{hash_path}
 use Rattle.addr_release.specs.Puts.{catalogue_put, hash_put}
 use Rattle.addr_build.specs.Moments.{LaysAll, LaysSome}

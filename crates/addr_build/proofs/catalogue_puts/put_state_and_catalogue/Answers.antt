@@ -1,4 +1,4 @@
-use Rattle.std.proofs.Common.{◌≡◌, Some, Err, [], ◌∷◌, ◌++◌, Bool, subst, sym}
+use Rattle.std.proofs.Common.{Some, [], ◌∷◌, ◌++◌, Bool, subst, sym}
 use Rattle.addr_release.specs.Names.{digest_from, state_file}
 use Rattle.addr_release.specs.Puts.{catalogue_put, hash_put, state_put}
 use Rattle.addr_build.specs.Endings.{Ends, name_tests}

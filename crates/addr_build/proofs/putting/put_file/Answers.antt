@@ -1,5 +1,4 @@
-use Rattle.std.proofs.Common.{◌≡◌, Some}
-use Rattle.addr_base.specs.Files.{SameStore, file_at}
+use Rattle.addr_base.specs.Files.{file_at}
 use Rattle.addr_build.proofs.PutLemmas.{puts-same, rose-same, not-there, if-told, told-at}
 use Rattle.addr_build.proofs.putting.put_file.Goals as goal
 

@@ -1,4 +1,4 @@
-use Rattle.std.proofs.Common.{◌≡◌, ◌∙◌, Err, refl, subst, sym, ap, length, arith}
+use Rattle.std.proofs.Common.{◌∙◌, refl, subst, sym, ap, length}
 use Rattle.addr_build.specs.Release.{PutsRelease}
 use Rattle.addr_build.specs.declared.error.PutErr.TheVariants.{NoMemory}
 use Rattle.addr_build.proofs.EndLemmas.{err-is}

@@ -1,4 +1,4 @@
-use Rattle.std.proofs.Common.{ap, sym, subst, ◌∙◌}
+use Rattle.std.proofs.Common.{subst, ◌∙◌}
 use Rattle.addr_base.specs.Files.{file_at}
 use Rattle.addr_build.specs.Putting.{IsSpotOf}
 use Rattle.addr_build.proofs.EndLemmas.{tells-spot, rose-spot}

@@ -1,4 +1,4 @@
-use Rattle.std.proofs.Common.{arith, Bool, Ok, Err, IfSome, [], ◌∷◌, subst, sym}
+use Rattle.std.proofs.Common.{arith, Bool, Ok, IfSome, [], ◌∷◌, subst, sym}
 use Rattle.addr_project.specs.Reading.{path}
 use Rattle.addr_build.specs.Endings.{Ends, Tells, name_tests}
 use Rattle.addr_build.specs.Putting.{file_of}
