@@ -2,8 +2,8 @@
 //!
 //! Promise: `run` ends as `specs/Outcome.antt` says of its words, the depot's files and the counts of faults; with status 0
 //! it prints exactly the text of its command; `run_live` ends as `specs/Serving.antt` says. `main` calls `run_live` where the
-//! first word is `serve`, else `run`, over the working folder, a listener on the loopback and standard output.
-//! Left out: every command but `simulate`, `rows`, `inspect`, `plan` and `serve`. Start: `specs/Words.antt`, `specs/Outcome.antt`, `src/runner.rt`.
+//! first word is `serve`, `run_build` of addr_change where it is `build`, else `run`, over the working folder, a listener on the loopback and standard output.
+//! Left out: every command but `simulate`, `rows`, `inspect`, `plan`, `serve` and `build`. Start: `specs/Words.antt`, `specs/Outcome.antt`, `src/runner.rt`.
 #![tactic(auto)]
 
 mod command;
@@ -20,6 +20,7 @@ mod status;
 mod tests;
 
 use addr_base::{FolderDepot, NoMemory, OutSink, Sink, Text};
+use addr_change::run_build;
 use addr_fields::is_same;
 use addr_net::TcpListen;
 use refusal::Refusal;
@@ -41,17 +42,19 @@ fn main(rt: HostRuntime) -> ExitCode {
 
 fn run_words<K: Sink>(rt: &HostRuntime, words: &[Text], out: &mut K) -> Status {
     let mut depot = FolderDepot::new(rt);
-    if is_live(words) {
+    if is_first(words, b"serve") {
         run_live(rt.alloc(), words, &mut depot, &mut TcpListen::new(rt), out)
+    } else if is_first(words, b"build") {
+        Status(run_build(rt.alloc(), words, &mut depot, out))
     } else {
         run(rt.alloc(), words, &mut depot, out)
     }
 }
 
-/// Whether the command waits for others.
-fn is_live(words: &[Text]) -> bool {
+/// Whether the first word is this one.
+fn is_first(words: &[Text], command: &[u8]) -> bool {
     match words {
-        [command, ..] => is_same(command.as_bytes(), b"serve"),
+        [first, ..] => is_same(first.as_bytes(), command),
         [] => false,
     }
 }

@@ -1,0 +1,46 @@
+// What no clause says: the lines as they are printed, and that a build succeeds where memory is ample.
+use crate::run_build;
+use addr_base::{Depot, MemDepot, MemSink, Text};
+use std::alloc::Global;
+use std::test::Fail;
+
+fn words(alloc: Global, line: &[&str]) -> Result<Vec<Text>, Fail> {
+    let mut words = Vec::new(alloc);
+    for word in line {
+        words.push(Text::copy_of(alloc, word)?)?;
+    }
+    Ok(words)
+}
+
+/// A folder `F` with a project of one asset, which is an entry, in a depot whose calls with these numbers fail.
+fn folder(alloc: Global, fails: &[u32]) -> Result<MemDepot, Fail> {
+    let mut depot = MemDepot::new(Vec::new(alloc), Vec::from_slice(alloc, fails)?);
+    let project = "[[group]]\nname = 'a b'\n\
+        [[asset]]\nguid = '00000000000000000000000000000001'\ntype = 'T'\nfile = 'a'\n\
+        [[entry]]\nguid = '00000000000000000000000000000001'\ngroup = 'a b'\naddress = 'a'\n";
+    let _project = depot.put(alloc, "F/project.toml", project.as_bytes());
+    let _asset = depot.put(alloc, "F/a", b"A");
+    let _broken = depot.put(alloc, "E/project.toml", b"=");
+    Ok(depot)
+}
+
+#[test]
+fn prints_one_line_of_each_end(rt: HostRuntime) -> Result<(), Fail> {
+    for (line, fails, status, want) in [
+        (["build", "F"], 99u32, 0u8, "built 1 1 1\n"),
+        (["build", "E"], 99, 4, "error 4 2 - 0\n"),
+        (["build", "N"], 99, 4, "error 4 1 - 0\n"),
+        (["build", "F"], 4, 3, "error 3 depot\n"),
+        (["plan", "F"], 99, 2, "error 2 usage\n"),
+    ] {
+        let mut depot = folder(rt.alloc(), &[fails])?;
+        let mut out = MemSink::new(rt.alloc(), Vec::new(rt.alloc()));
+        let words = words(rt.alloc(), &line)?;
+        assert_eq!(rt;
+            run_build(rt.alloc(), words.as_slice(), &mut depot, &mut out),
+            status
+        );
+        assert_eq!(rt; out.written(), want.as_bytes());
+    }
+    Ok(())
+}
