@@ -9,7 +9,7 @@ use Rattle.addr_locate.specs.declared.rows.BundleRow.{BundleRow}
 use Rattle.addr_pack.specs.declared.bundles.Plan.{Plan}
 use Rattle.addr_project.specs.Model.{Project}
 use Rattle.addr_release.specs.Built.{IsBundleOf, ReleaseBundle}
-use Rattle.addr_release.specs.Puts.{Test, all_bundle_tests, bundle_put, bundle_tests, first_taken}
+use Rattle.addr_release.specs.Puts.{all_bundle_tests, bundle_put, bundle_tests, first_taken}
 use Rattle.addr_walks.specs.Places.{EachAt}
 use Rattle.addr_build.specs.Endings.{Ends}
 use Rattle.addr_build.specs.Moments.{LaysAll}
@@ -45,7 +45,8 @@ PutsOne p plan folder b old new (Err e) =
     ⊎ (SameStore old new × (e ≡ NoMemory))
 
 -- the first bundles of a project's release were put, and none of their names was taken
-pub record AreLaid (p : Project) (plan : Plan) (folder : List ℕ) (old new : Store) (rows : List BundleRow) (put : ℕ) : Type 0 where
+pub record AreLaid (p : Project) (plan : Plan) (folder : List ℕ) (old new : Store)
+    (rows : List BundleRow) (put : ℕ) : Type 0 where
   pub bundles : List ReleaseBundle
   pub each : EachAt (IsBundleOf p plan) bundles
   pub told : rows ≡ map (λ made. made.row) bundles

@@ -1,7 +1,7 @@
 -- What a build answers, why it refuses, and what stands in the depot at each moment.
-use Rattle.std.specs.Prelude.{ℕ, ◌≡◌, ◌≤◌, ◌<◌, ◌++◌, ◌⊎◌, List, [], length, map, take, Some, Result, Ok, Err}
+use Rattle.std.specs.Prelude.{ℕ, ◌≡◌, ◌≤◌, ◌<◌, ◌++◌, ◌⊎◌, List, [], length, take, Some, Result, Ok, Err}
 use Rattle.addr_base.specs.Faults.{Rose}
-use Rattle.addr_base.specs.Files.{SameStore, Store}
+use Rattle.addr_base.specs.Files.{Store}
 use Rattle.addr_base.specs.declared.files.MemFile.{MemFile}
 use Rattle.addr_images.specs.Limits.{BytesPass, Fits, IsPlanWithin, PlanPasses}
 use Rattle.addr_images.specs.Sizes.{IsBytesCount}

@@ -72,7 +72,8 @@ fn put_below<D: Depot>(
     key: &str,
     bytes: &[u8],
 ) -> Result<(), DepotErr>
-    ensures puts { Lays (file_of (side_path folder.now remote key.now) bytes.now ∷ []) (D.now depot.old) (D.now depot.new) result }
+    ensures puts { Lays (file_of (side_path folder.now remote key.now) bytes.now ∷ [])
+        (D.now depot.old) (D.now depot.new) result }
     ensures cause { FaultRose (D.now depot.old).faults (D.now depot.new).faults result }
 {
     let name = below(alloc, remote, key)?;
