@@ -21,10 +21,11 @@ use Rattle.addr_build.specs.declared.error.PutErr.{PutErr}
 use Rattle.addr_build.specs.declared.error.PutErr.TheVariants.{Taken, Fault, NoMemory}
 use Rattle.addr_build.specs.declared.putting.Spot.{Spot}
 use Rattle.addr_build.specs.declared.putting.Spot.TheVariants.{Free, Same, Other}
-use Rattle.addr_build.specs.FromDepot.{of_depot}
-use Rattle.addr_build.specs.Endings.{Ends, IsTakenFirst, Owes, PutRose, Tells, key_tests, name_tests}
+use Rattle.addr_build.specs.within.FromDepot.{of_depot}
+use Rattle.addr_build.specs.Endings.{Ends, IsTakenFirst, PutRose, key_tests, name_tests}
+use Rattle.addr_build.specs.within.Testing.{IsSpotOf, Owes, Tells}
 use Rattle.addr_build.specs.Moments.{LaysAll, LaysSome}
-use Rattle.addr_build.specs.Putting.{IsSpotOf, Lays, file_of}
+use Rattle.addr_build.specs.Putting.{Lays, file_of}
 use Rattle.addr_build.proofs.PutLemmas.{lays-none, lays-some-none, lays-same, lays-all-same, lays-then, lays-all-then, lays-more, there-all, told-at}
 
 -- ---- answers

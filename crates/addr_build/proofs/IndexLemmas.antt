@@ -16,8 +16,8 @@ use Rattle.addr_project.specs.Model.{Project}
 use Rattle.addr_release.specs.Built.{IsBundleOf, IsEntryRow, ReleaseBundle, catalogue_of}
 use Rattle.addr_release.specs.Names.{digest_from}
 use Rattle.addr_walks.specs.Places.{EachAt}
-use Rattle.addr_build.specs.Building.{AreLaid}
-use Rattle.addr_build.specs.Index.{IndexOf, IsStateText}
+use Rattle.addr_build.specs.within.Building.{AreLaid}
+use Rattle.addr_build.specs.within.Index.{IndexOf, IsStateText}
 
 -- the rows of made bundles are those of the bundles of a full build
 pub laid-rows : (p : Project) (plan : Plan) (folder : List ℕ) (old new : Store) (rows : List BundleRow) (put : ℕ) → AreLaid p plan folder old new rows put → length rows ≡ length plan.bundles → AreBundleRows p plan rows

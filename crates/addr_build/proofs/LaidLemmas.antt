@@ -20,7 +20,8 @@ use Rattle.addr_release.specs.Built.{IsBundleOf, IsFileOf, IsRowOf, ReleaseBundl
 use Rattle.addr_release.specs.Names.{side_path}
 use Rattle.addr_release.specs.Puts.{Test, all_bundle_tests, bundle_put, bundle_tests}
 use Rattle.addr_walks.proofs.Lists.{EachAt-none, EachAt-push}
-use Rattle.addr_build.specs.Building.{AreLaid, PutsOne, StopsIn, count_owed, has_bytes}
+use Rattle.addr_build.specs.Release.{count_owed, has_bytes}
+use Rattle.addr_build.specs.within.Building.{AreLaid, PutsOne, StopsIn}
 use Rattle.addr_build.specs.Endings.{Ends}
 use Rattle.addr_build.specs.declared.error.PutErr.{PutErr}
 use Rattle.addr_build.specs.declared.error.PutErr.TheVariants.{Taken, Fault, NoMemory}

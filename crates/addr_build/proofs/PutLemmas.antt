@@ -15,7 +15,8 @@ use Rattle.addr_base.specs.declared.depot.DepotErr.{DepotErr}
 use Rattle.addr_base.specs.declared.files.MemFile.{MemFile}
 use Rattle.addr_release.specs.Puts.{IsAfter}
 use Rattle.addr_build.specs.Moments.{IsDuring, Passes, LaysSome, LaysAll}
-use Rattle.addr_build.specs.Putting.{file_of, IsSpotOf, Lays}
+use Rattle.addr_build.specs.Putting.{file_of, Lays}
+use Rattle.addr_build.specs.within.Testing.{IsSpotOf}
 use Rattle.addr_build.specs.declared.putting.Spot.{Spot}
 use Rattle.addr_build.specs.declared.putting.Spot.TheVariants.{Free, Same, Other}
 

@@ -11,10 +11,10 @@ use Rattle.addr_project.specs.Model.{Project}
 use Rattle.addr_release.specs.Built.{IsEntryRow, IsReleaseIn, Release}
 use Rattle.addr_release.specs.Names.{digest_from, state_file}
 use Rattle.addr_release.specs.Puts.{Test, all_bundle_tests, bundle_put, catalogue_put, hash_put, puts_of, state_put, tests_of}
-use Rattle.addr_build.specs.Building.{AreLaid, StopsIn, count_owed}
+use Rattle.addr_build.specs.Release.{count_owed}
+use Rattle.addr_build.specs.within.Building.{AreLaid, PutsRelease, StopsIn}
 use Rattle.addr_build.specs.Endings.{Ends, name_tests}
-use Rattle.addr_build.specs.Index.{IndexOf}
-use Rattle.addr_build.specs.Release.{PutsRelease}
+use Rattle.addr_build.specs.within.Index.{IndexOf}
 use Rattle.addr_build.specs.declared.bundles.PutBundles.{PutBundles}
 use Rattle.addr_build.specs.declared.error.PutErr.{PutErr}
 use Rattle.addr_build.specs.declared.error.PutErr.TheVariants.{NoMemory}

@@ -3,7 +3,8 @@ ghost use Rattle.std.specs.Prelude.{◌≡◌, ◌∷◌, [], false, None, Some,
 ghost use Rattle.std.specs.Bool.{MatchBool};
 ghost use Rattle.addr_base.specs.Files.{FaultRose, SameStore, file_at};
 ghost use Rattle.addr_project.specs.Reading.{path};
-ghost use Rattle.addr_build.specs.Endings.{Ends, Owes, PutRose, Tells, name_tests};
+ghost use Rattle.addr_build.specs.Endings.{Ends, PutRose, name_tests};
+ghost use Rattle.addr_build.specs.within.Testing.{Owes, Tells};
 ghost use Rattle.addr_build.specs.Putting.{Lays, file_of};
 
 use crate::error::PutErr;
