@@ -1,5 +1,5 @@
 -- A whole build: what it answers and leaves, from what putting the release did.
-use Rattle.std.proofs.Common.{◌≡◌, ℕ, ◌+◌, List, [], ◌∷◌, ◌++◌, length, take, drop, Option, Some, None, Result, Ok, Err, refl, sym, ap, subst, ◌∙◌, ◌⊎◌, inl, inr, arith}
+use Rattle.std.proofs.Common.{◌≡◌, ℕ, ◌+◌, List, take, drop, Option, Some, None, Ok, Err, refl, subst, ◌∙◌, inr, arith}
 use Rattle.std.proofs.lemmas.List.{take-append-drop}
 use Rattle.std.specs.Prelude.{IfSome, IsSomeAnd}
 use Rattle.addr_base.specs.Files.{SameStore, Store}
@@ -9,10 +9,11 @@ use Rattle.addr_project.specs.Model.{Project}
 use Rattle.addr_project.specs.Reading.{ProjectOf}
 use Rattle.addr_release.specs.Puts.{Test}
 use Rattle.addr_build.specs.Endings.{Ends, IsTakenFirst}
-use Rattle.addr_build.specs.FromCauses.{of_put}
-use Rattle.addr_build.specs.Moments.{LaysAll, LaysSome}
+use Rattle.addr_build.specs.within.FromCauses.{of_put}
+use Rattle.addr_build.specs.Moments.{LaysSome}
 use Rattle.addr_build.specs.Outcomes.{Answers, Builds, IsWithin}
-use Rattle.addr_build.specs.Release.{IsBegunIn, PutsRelease}
+use Rattle.addr_build.specs.Release.{IsBegunIn}
+use Rattle.addr_build.specs.within.Building.{PutsRelease}
 use Rattle.addr_build.specs.declared.error.PutErr.{PutErr}
 use Rattle.addr_build.specs.declared.error.PutErr.TheVariants.{Taken, Fault, NoMemory}
 use Rattle.addr_build.specs.declared.release.Summary.{Summary}

@@ -1,16 +1,14 @@
 -- The catalogue on the way of a build: the old one or the new one.
-use Rattle.std.proofs.Common.{◌≡◌, ◌+◌, ℕ, Bool, true, false, nat_le, List, [], ◌∷◌, ◌++◌, length, map, take, Some, refl, sym, ap, subst, ◌∙◌, ◌⊎◌, inl, inr, arith, if◌then◌else◌}
-use Rattle.std.specs.List.{Contains, slice_get}
+use Rattle.std.proofs.Common.{◌≡◌, ◌+◌, ℕ, Bool, true, false, nat_le, List, length, take, Some, refl, ap, subst, ◌∙◌, inl, inr, arith, if◌then◌else◌}
+use Rattle.std.specs.List.{Contains}
 use Rattle.addr_base.specs.Files.{file_at}
 use Rattle.addr_base.specs.declared.files.MemFile.{MemFile}
 use Rattle.addr_pack.proofs.DigestLemmas.{digests-fit}
-use Rattle.addr_pack.specs.declared.bundles.Plan.{Plan}
 use Rattle.addr_project.specs.Model.{Project}
 use Rattle.addr_walks.proofs.Lists.{map-Contains, slice_get-Contains}
-use Rattle.addr_walks.specs.Places.{EachAt}
-use Rattle.addr_release.specs.Built.{IsBundleOf, IsReleaseIn, IsReleaseOf, Release, ReleaseBundle}
+use Rattle.addr_release.specs.Built.{IsReleaseOf}
 use Rattle.addr_release.specs.Names.{catalogue_path, digest_from}
-use Rattle.addr_release.specs.Puts.{IsAfter, Test, bundle_put, content_puts, puts_of}
+use Rattle.addr_release.specs.Puts.{IsAfter, Test, bundle_put, content_puts}
 use Rattle.addr_release.proofs.ContentLemmas.{catalogue-along}
 use Rattle.addr_release.proofs.NameLemmas.{bundle-apart, key-long, release-content}
 use Rattle.addr_release.proofs.OwnLemmas.{are-named}

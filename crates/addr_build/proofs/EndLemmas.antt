@@ -1,8 +1,7 @@
 -- How puts end: one put, and puts after puts.
-use Rattle.std.proofs.Common.{◌≡◌, ◌≢◌, ℕ, ◌+◌, ◌≤◌, ◌<◌, Bool, true, false, not, List, [], ◌∷◌, ◌++◌, length, take, Option, Some, None, Result, Ok, Err, cond, arith, refl, sym, ap, subst, ◌∙◌, ◌⊎◌, inl, inr, reverse}
-use Rattle.std.specs.Prelude.{IfSome, IfOk, IsErr}
+use Rattle.std.proofs.Common.{◌≡◌, ◌≢◌, ℕ, ◌+◌, ◌<◌, Bool, true, false, not, List, [], ◌∷◌, ◌++◌, length, take, Some, None, Result, Ok, Err, cond, arith, refl, sym, ap, subst, ◌∙◌, inl, inr, reverse}
+use Rattle.std.specs.Prelude.{IfSome, IsErr}
 use Rattle.std.specs.Result.{IsErrAnd}
-use Rattle.std.specs.Bool.{MatchBool}
 use Rattle.std.specs.List.{AllByRecursion, find}
 use Rattle.std.specs.Option.{option_map, option_or}
 use Rattle.std.specs.Str.{bytes_eq}
@@ -11,23 +10,23 @@ use Rattle.std.proofs.lemmas.List.{reverse-append, append_assoc, length-append, 
 use Rattle.std.proofs.lemmas.List.Folds.{find-append}
 use Rattle.std.proofs.lemmas.Slice.Eq.{bytes_eq-Decides}
 use Rattle.std.proofs.Math.Seq.{take-append-add}
-use Rattle.addr_base.specs.Files.{Store, SameStore, FaultRose, file_at}
+use Rattle.addr_base.specs.Files.{Store, SameStore, file_at}
 use Rattle.addr_base.specs.declared.depot.DepotErr.{DepotErr}
 use Rattle.addr_base.specs.declared.depot.DepotErr.TheVariants as depot
 use Rattle.addr_base.specs.declared.files.MemFile.{MemFile}
 use Rattle.addr_project.specs.Reading.{path}
 use Rattle.addr_release.specs.Names.{side_path}
 use Rattle.addr_release.specs.Puts.{IsAfter, Test, are_other, first_taken, is_taken}
-use Rattle.addr_state.specs.Files.{side_folder}
 use Rattle.addr_build.specs.declared.error.PutErr.{PutErr}
 use Rattle.addr_build.specs.declared.error.PutErr.TheVariants.{Taken, Fault, NoMemory}
 use Rattle.addr_build.specs.declared.putting.Spot.{Spot}
 use Rattle.addr_build.specs.declared.putting.Spot.TheVariants.{Free, Same, Other}
-use Rattle.addr_build.specs.FromDepot.{of_depot}
-use Rattle.addr_build.specs.Endings.{Ends, IsTakenFirst, Owes, PutRose, Tells, key_tests, name_tests}
+use Rattle.addr_build.specs.within.FromDepot.{of_depot}
+use Rattle.addr_build.specs.Endings.{Ends, IsTakenFirst, PutRose, key_tests, name_tests}
+use Rattle.addr_build.specs.within.Testing.{IsSpotOf, Owes, Tells}
 use Rattle.addr_build.specs.Moments.{LaysAll, LaysSome}
-use Rattle.addr_build.specs.Putting.{IsSpotOf, Lays, file_of}
-use Rattle.addr_build.proofs.PutLemmas.{lays-none, lays-some-none, lays-same, lays-all-same, lays-then, lays-all-then, lays-more, there-all, told-at, if-told}
+use Rattle.addr_build.specs.Putting.{Lays, file_of}
+use Rattle.addr_build.proofs.PutLemmas.{lays-none, lays-some-none, lays-same, lays-all-same, lays-then, lays-all-then, lays-more, there-all, told-at}
 
 -- ---- answers
 

@@ -1,14 +1,13 @@
 -- The release of made bundles, from the bytes of its state and of its catalogue.
-use Rattle.std.proofs.Common.{◌≡◌, ℕ, List, length, map, Some, Ok, refl, sym, ap, ap₂, subst, ◌∙◌}
+use Rattle.std.proofs.Common.{◌≡◌, ℕ, List, length, map, Some, refl, sym, ap, ap₂, subst, ◌∙◌}
 use Rattle.std.specs.List.{AllZip, slice_get}
 use Rattle.addr_base.specs.Ids.{digest_of}
 use Rattle.addr_base.specs.Files.{Store}
 use Rattle.addr_base.specs.declared.ids.Digest.{Digest}
 use Rattle.addr_catalog.specs.ReadsAlike.{ReadsAlike}
 use Rattle.addr_catalog.specs.Written.{catalogue_text}
-use Rattle.addr_catalog.specs.declared.catalogue.Catalogue.{Catalogue}
 use Rattle.addr_images.specs.Catalogues.{catalogue_for}
-use Rattle.addr_images.specs.States.{AreBundleRows, IsBundleRow}
+use Rattle.addr_images.specs.States.{AreBundleRows}
 use Rattle.addr_locate.specs.declared.rows.BundleRow.{BundleRow}
 use Rattle.addr_locate.specs.declared.rows.PlainAsset.{PlainAsset}
 use Rattle.addr_pack.specs.declared.bundles.Plan.{Plan}
@@ -17,8 +16,8 @@ use Rattle.addr_project.specs.Model.{Project}
 use Rattle.addr_release.specs.Built.{IsBundleOf, IsEntryRow, ReleaseBundle, catalogue_of}
 use Rattle.addr_release.specs.Names.{digest_from}
 use Rattle.addr_walks.specs.Places.{EachAt}
-use Rattle.addr_build.specs.Building.{AreLaid}
-use Rattle.addr_build.specs.Index.{IndexOf, IsStateText}
+use Rattle.addr_build.specs.within.Building.{AreLaid}
+use Rattle.addr_build.specs.within.Index.{IndexOf, IsStateText}
 
 -- the rows of made bundles are those of the bundles of a full build
 pub laid-rows : (p : Project) (plan : Plan) (folder : List ℕ) (old new : Store) (rows : List BundleRow) (put : ℕ) → AreLaid p plan folder old new rows put → length rows ≡ length plan.bundles → AreBundleRows p plan rows

@@ -1,5 +1,5 @@
 -- Names of a release's puts: the keys of two bundles differ, and a state stands beside them.
-use Rattle.std.proofs.Common.{◌≡◌, ◌≢◌, ℕ, zero, suc, ◌+◌, ◌<◌, Bool, true, false, List, [], ◌∷◌, ◌++◌, length, map, codes, get_or, Some, refl, sym, ap, subst, ◌∙◌, arith, length-append}
+use Rattle.std.proofs.Common.{◌≡◌, ◌≢◌, ℕ, suc, ◌<◌, Bool, true, false, List, [], ◌∷◌, ◌++◌, length, map, codes, Some, refl, sym, ap, ◌∙◌, arith, length-append}
 use Rattle.std.proofs.lemmas.Cmp.{nat_list_cmp_total}
 use Rattle.std.proofs.lemmas.List.{append_cancel_left}
 use Rattle.std.proofs.lemmas.Option.{slice_get_within}
@@ -19,8 +19,8 @@ use Rattle.addr_state.specs.Files.{file_name, side_folder}
 use Rattle.addr_walks.proofs.Lists.{sorted-once}
 use Rattle.addr_walks.specs.Places.{EachAt}
 use Rattle.addr_release.specs.Built.{IsBundleOf, ReleaseBundle}
-use Rattle.addr_release.specs.Names.{digest_from, side_path, state_file}
-use Rattle.addr_release.specs.Puts.{Test, bundle_put, bundle_tests, state_test}
+use Rattle.addr_release.specs.Names.{digest_from, state_file}
+use Rattle.addr_release.specs.Puts.{bundle_put, bundle_tests, state_test}
 use Rattle.addr_build.proofs.EndLemmas.{Apart}
 
 front-same : (m n s t : List ℕ) → length s ≡ length t → m ++ s ≡ n ++ t → m ≡ n

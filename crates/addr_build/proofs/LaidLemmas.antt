@@ -1,14 +1,13 @@
 -- Bundles that are put one after the other.
-use Rattle.std.proofs.Common.{◌≡◌, ℕ, ◌+◌, ◌<◌, ◌≤◌, not, Bool, true, false, cond, List, [], ◌∷◌, ◌++◌, length, map, Option, Some, None, Result, Ok, Err, refl, sym, ap, ap₂, subst, ◌∙◌, ◌⊎◌, inl, inr, arith, append-nil}
+use Rattle.std.proofs.Common.{◌≡◌, ℕ, ◌+◌, ◌<◌, ◌≤◌, not, Bool, true, false, cond, List, [], ◌∷◌, ◌++◌, length, map, Some, None, Result, Ok, Err, refl, sym, ap, ap₂, subst, ◌∙◌, inl, inr, arith, append-nil}
 use Rattle.std.proofs.lemmas.Grind.{flat_map-append}
 use Rattle.std.proofs.lemmas.List.{length-map, map-append}
 use Rattle.std.proofs.lemmas.Option.{slice_get_within}
 use Rattle.std.proofs.lemmas.List.Sums.{sum_by-append}
 use Rattle.std.proofs.lemmas.Slice.Eq.{bytes_eq-Decides}
 use Rattle.std.specs.Bool.{MatchBool}
-use Rattle.std.specs.List.{AllByRecursion, count_by, enumerate_from, flat_map, slice_get}
-use Rattle.std.specs.Str.{bytes_eq}
-use Rattle.addr_base.specs.Files.{SameStore, Store, file_at}
+use Rattle.std.specs.List.{AllByRecursion, enumerate_from, flat_map, slice_get}
+use Rattle.addr_base.specs.Files.{Store, file_at}
 use Rattle.addr_base.specs.declared.files.MemFile.{MemFile}
 use Rattle.addr_locate.specs.declared.rows.BundleRow.{BundleRow}
 use Rattle.addr_pack.specs.Placement.{IsPlaced}
@@ -19,11 +18,10 @@ use Rattle.addr_project.specs.Model.{Project}
 use Rattle.addr_project.specs.Reading.{path}
 use Rattle.addr_release.specs.Built.{IsBundleOf, IsFileOf, IsRowOf, ReleaseBundle}
 use Rattle.addr_release.specs.Names.{side_path}
-use Rattle.addr_release.specs.Puts.{IsAfter, Test, all_bundle_tests, bundle_put, bundle_tests, first_taken}
-use Rattle.addr_state.specs.Files.{side_folder}
+use Rattle.addr_release.specs.Puts.{Test, all_bundle_tests, bundle_put, bundle_tests}
 use Rattle.addr_walks.proofs.Lists.{EachAt-none, EachAt-push}
-use Rattle.addr_walks.specs.Places.{EachAt}
-use Rattle.addr_build.specs.Building.{AreLaid, PutsOne, StopsIn, count_owed, has_bytes}
+use Rattle.addr_build.specs.Release.{count_owed, has_bytes}
+use Rattle.addr_build.specs.within.Building.{AreLaid, PutsOne, StopsIn}
 use Rattle.addr_build.specs.Endings.{Ends}
 use Rattle.addr_build.specs.declared.error.PutErr.{PutErr}
 use Rattle.addr_build.specs.declared.error.PutErr.TheVariants.{Taken, Fault, NoMemory}

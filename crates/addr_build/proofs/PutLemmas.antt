@@ -1,21 +1,22 @@
 -- Files that are put one after the other.
-use Rattle.std.proofs.Common.{◌≡◌, ◌≢◌, ℕ, ◌+◌, ◌≤◌, ◌<◌, Bool, true, false, List, [], ◌∷◌, ◌++◌, length, take, get_or, Option, Some, None, Result, Ok, Err, All, zero, suc, arith, refl, sym, ap, subst, ◌∙◌, ◌⊎◌, inl, inr, reverse}
+use Rattle.std.proofs.Common.{◌≡◌, ◌≢◌, ℕ, ◌+◌, ◌≤◌, ◌<◌, Bool, true, false, List, [], ◌∷◌, ◌++◌, length, take, Option, Some, None, Result, Ok, Err, All, suc, arith, refl, sym, ap, subst, ◌∙◌, ◌⊎◌, inl, inr, reverse}
 use Rattle.std.specs.Prelude.{MatchOption, IsNone, IsSomeAnd, IfSome}
 use Rattle.std.proofs.lemmas.Bool.{false≢true}
-use Rattle.std.proofs.lemmas.List.{reverse-append, take-append-le, append_assoc, append-nil, length-append, take_all}
+use Rattle.std.proofs.lemmas.List.{reverse-append, take-append-le, append_assoc, append-nil, length-append}
 use Rattle.std.proofs.Math.Seq.{take-append-add}
 use Rattle.std.proofs.lemmas.List.Folds.{find-append}
 use Rattle.std.proofs.lemmas.Slice.Eq.{bytes_eq-Decides}
 use Rattle.std.specs.List.{find}
 use Rattle.std.specs.Option.{option_map, option_or}
 use Rattle.std.specs.Str.{bytes_eq}
-use Rattle.addr_base.specs.Files.{Store, IsPut, IsPutOrSame, SameFiles, SameStore, FaultRose, Puts, PutsAt, file_at}
+use Rattle.addr_base.specs.Files.{Store, IsPut, IsPutOrSame, SameStore, FaultRose, Puts, PutsAt, file_at}
 use Rattle.addr_base.proofs.FileLemmas.{put_first}
 use Rattle.addr_base.specs.declared.depot.DepotErr.{DepotErr}
 use Rattle.addr_base.specs.declared.files.MemFile.{MemFile}
 use Rattle.addr_release.specs.Puts.{IsAfter}
 use Rattle.addr_build.specs.Moments.{IsDuring, Passes, LaysSome, LaysAll}
-use Rattle.addr_build.specs.Putting.{file_of, IsSpotOf, Lays}
+use Rattle.addr_build.specs.Putting.{file_of, Lays}
+use Rattle.addr_build.specs.within.Testing.{IsSpotOf}
 use Rattle.addr_build.specs.declared.putting.Spot.{Spot}
 use Rattle.addr_build.specs.declared.putting.Spot.TheVariants.{Free, Same, Other}
 
@@ -232,3 +233,16 @@ not-there found bytes Free is kind there = cc (sym is ∙ there)
 not-there found bytes Same is (inl kind) there = cc kind
 not-there found bytes Same is (inr kind) there = cc kind
 not-there found bytes Other (other, at, differ) kind there = differ (let e : Some other ≡ Some bytes = sym at ∙ there in cc e)
+
+-- ---- what is there isn't put again
+
+same-then : (a b c : Store) → SameStore a b → SameStore b c → SameStore a c
+same-then a b c first second = record { files = second.files ∙ first.files; past = second.past ∙ first.past }
+
+pub again-one : (a b : Store) (P Q : List MemFile → Type 0) → IfSome a.files (λ f. P f → SameStore a b) → IfSome a.files (λ f. P f × Q f → SameStore a b)
+again-one a b P Q one = if-told a.files (λ f. P f × Q f → SameStore a b) (λ f is both. told-at a.files (λ f. P f → SameStore a b) f is one both.0)
+
+pub again-two : (a b c : Store) (P Q : List MemFile → Type 0) → IfSome a.files (λ f. P f → SameStore a b) → IfSome b.files (λ f. Q f → SameStore b c) → IfSome a.files (λ f. P f × Q f → SameStore a c)
+again-two a b c P Q one two = if-told a.files (λ f. P f × Q f → SameStore a c) (λ f is both. (
+    let first = told-at a.files (λ f. P f → SameStore a b) f is one both.0 in
+    same-then a b c first (told-at b.files (λ f. Q f → SameStore b c) f (first.files ∙ is) two both.1)))

@@ -1,21 +1,20 @@
 -- Putting state, catalogue and hash behind the bundles of a release.
-use Rattle.std.proofs.Common.{◌≡◌, ℕ, suc, ◌+◌, ◌<◌, List, [], ◌∷◌, ◌++◌, length, map, Some, Result, Ok, Err, refl, sym, ap, ap₂, subst, ◌∙◌, ◌⊎◌, inl, inr, arith, append_assoc}
+use Rattle.std.proofs.Common.{◌≡◌, ℕ, suc, ◌+◌, List, [], ◌∷◌, ◌++◌, length, map, Some, Result, Ok, Err, refl, sym, ap, subst, ◌∙◌, inl, inr, arith, append_assoc}
 use Rattle.std.proofs.lemmas.List.{length-map}
 use Rattle.std.specs.List.{AllZip}
-use Rattle.addr_base.specs.Files.{SameStore, Store}
+use Rattle.addr_base.specs.Files.{Store}
 use Rattle.addr_base.specs.declared.files.MemFile.{MemFile}
 use Rattle.addr_locate.specs.declared.rows.BundleRow.{BundleRow}
 use Rattle.addr_pack.specs.Placement.{IsPlaced}
 use Rattle.addr_pack.specs.declared.bundles.Plan.{Plan}
 use Rattle.addr_project.specs.Model.{Project}
-use Rattle.addr_release.specs.Built.{IsEntryRow, IsReleaseIn, Release, ReleaseBundle}
+use Rattle.addr_release.specs.Built.{IsEntryRow, IsReleaseIn, Release}
 use Rattle.addr_release.specs.Names.{digest_from, state_file}
-use Rattle.addr_release.specs.Puts.{Test, all_bundle_tests, bundle_put, catalogue_put, hash_put, puts_of, state_put, state_test, tests_of}
-use Rattle.addr_build.specs.Building.{AreLaid, StopsIn, count_owed}
+use Rattle.addr_release.specs.Puts.{Test, all_bundle_tests, bundle_put, catalogue_put, hash_put, puts_of, state_put, tests_of}
+use Rattle.addr_build.specs.Release.{count_owed}
+use Rattle.addr_build.specs.within.Building.{AreLaid, PutsRelease, StopsIn}
 use Rattle.addr_build.specs.Endings.{Ends, name_tests}
-use Rattle.addr_build.specs.Index.{IndexOf}
-use Rattle.addr_build.specs.Moments.{LaysAll, LaysSome}
-use Rattle.addr_build.specs.Release.{IsBegunIn, PutsRelease, Sums}
+use Rattle.addr_build.specs.within.Index.{IndexOf}
 use Rattle.addr_build.specs.declared.bundles.PutBundles.{PutBundles}
 use Rattle.addr_build.specs.declared.error.PutErr.{PutErr}
 use Rattle.addr_build.specs.declared.error.PutErr.TheVariants.{NoMemory}

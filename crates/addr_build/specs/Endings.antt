@@ -1,16 +1,13 @@
 -- How puts with tests of their names end: all are put, or a name is taken and those before it are put, or they stop.
-use Rattle.std.specs.Prelude.{ℕ, ◌≡◌, ◌+◌, ◌<◌, ◌≤◌, ◌⊎◌, Bool, false, true, List, [], ◌∷◌, ◌++◌, length, take, Option, Some, None, Result, Ok, Err}
-use Rattle.std.specs.Bool.{MatchBool}
+use Rattle.std.specs.Prelude.{ℕ, ◌≡◌, ◌+◌, ◌<◌, ◌≤◌, false, true, List, [], ◌∷◌, ◌++◌, length, take, Some, None, Result, Ok, Err}
 use Rattle.addr_base.specs.Faults.{Rose}
-use Rattle.addr_base.specs.Files.{Store, file_at}
+use Rattle.addr_base.specs.Files.{Store}
 use Rattle.addr_base.specs.declared.files.MemFile.{MemFile}
 use Rattle.addr_release.specs.Puts.{Test, first_taken}
 use Rattle.addr_state.specs.Files.{side_folder}
 use Rattle.addr_build.specs.Moments.{LaysAll, LaysSome}
 use Rattle.addr_build.specs.declared.error.PutErr.{PutErr}
 use Rattle.addr_build.specs.declared.error.PutErr.TheVariants.{Taken, Fault, NoMemory}
-use Rattle.addr_build.specs.declared.putting.Spot.{Spot}
-use Rattle.addr_build.specs.declared.putting.Spot.TheVariants.{Free, Same, Other}
 
 -- the tests of a name on both sides, local before remote
 abbrev pub key_tests : ℕ → List ℕ → List ℕ → List Test
@@ -26,20 +23,6 @@ name_tests n name bytes = record { number = n; name = name; bytes = bytes } ∷ 
 abbrev pub IsTakenFirst : List MemFile → List ℕ → List Test → ℕ → List ℕ → Type 0
 IsTakenFirst files folder tests n name = (test : Test) × (first_taken files folder tests ≡ Some test)
     × (test.number ≡ n) × (test.name ≡ name)
-
--- what tests of names answer before a file is put: whether it has still to be put, or the first name that is taken
-abbrev pub Tells : List MemFile → List ℕ → List Test → List ℕ → List ℕ → Result Bool PutErr → Type 0
-Tells files folder tests own bytes (Ok owed) = (first_taken files folder tests ≡ None)
-    × MatchBool owed (file_at own files ≡ None) (file_at own files ≡ Some bytes)
-Tells files folder tests own bytes (Err (Taken name)) = IsTakenFirst files folder tests 0 name
-Tells files folder tests own bytes (Err Fault) = Unit {0}
-Tells files folder tests own bytes (Err NoMemory) = Unit {0}
-
--- whether a file has still to be put where this stands under its name, or the refusal that names it
-abbrev pub Owes : Spot → List ℕ → Result Bool PutErr → Type 0
-Owes Free name result = result ≡ Ok true
-Owes Same name result = result ≡ Ok false
-Owes Other name result = (result ≡ Err NoMemory) ⊎ (result ≡ Err (Taken name))
 
 -- what puts end with, the first of them being the n-th: all were put and no name is taken; or exactly those before the
 -- first name that is taken were put; or, at a stop, some were

@@ -1,10 +1,7 @@
-pub mod Moments
-pub mod Putting
 pub mod Endings
-pub mod FromDepot
-pub mod FromCauses
-pub mod Building
-pub mod Release
-pub mod Outcomes
-pub mod Index
 pub mod Laws
+pub mod Moments
+pub mod Outcomes
+pub mod Putting
+pub mod Release
+pub mod within

@@ -1,7 +1,7 @@
 -- What a build answers, why it refuses, and what stands in the depot at each moment.
-use Rattle.std.specs.Prelude.{ℕ, ◌≡◌, ◌≤◌, ◌<◌, ◌++◌, ◌⊎◌, List, [], length, map, take, Some, Result, Ok, Err}
+use Rattle.std.specs.Prelude.{ℕ, ◌≡◌, ◌≤◌, ◌<◌, ◌++◌, ◌⊎◌, List, [], length, take, Some, Result, Ok, Err}
 use Rattle.addr_base.specs.Faults.{Rose}
-use Rattle.addr_base.specs.Files.{SameStore, Store}
+use Rattle.addr_base.specs.Files.{Store}
 use Rattle.addr_base.specs.declared.files.MemFile.{MemFile}
 use Rattle.addr_images.specs.Limits.{BytesPass, Fits, IsPlanWithin, PlanPasses}
 use Rattle.addr_images.specs.Sizes.{IsBytesCount}
@@ -12,12 +12,12 @@ use Rattle.addr_project.specs.declared.limit.Limit.{Limit}
 use Rattle.addr_project.specs.declared.limit.Limit.TheVariants as limit
 use Rattle.addr_release.specs.Built.{IsReleaseOf, Release}
 use Rattle.addr_release.specs.Puts.{IsAfter, NoneTaken, Test, puts_of}
-use Rattle.addr_build.specs.Endings.{IsTakenFirst}
 use Rattle.addr_build.specs.Moments.{Passes}
-use Rattle.addr_build.specs.Release.{IsBegunIn, Sums}
 use Rattle.addr_build.specs.declared.error.BuildErr.{BuildErr}
 use Rattle.addr_build.specs.declared.error.BuildErr.TheVariants.{Project, TooLarge, NameTaken, DepotFault, NoMemory}
 use Rattle.addr_build.specs.declared.release.Summary.{Summary}
+use Rattle.addr_build.specs.Release.{IsBegunIn, Sums}
+use Rattle.addr_build.specs.Endings.{IsTakenFirst}
 
 -- the first limit that a project passes, and the whole count
 abbrev pub IsTooLarge : Contents → Limit → ℕ → Type 0
@@ -88,21 +88,3 @@ BuildRose before now (Err (TooLarge which n)) = now ≡ before
 BuildRose before now (Err (NameTaken name)) = now ≡ before
 BuildRose before now (Err DepotFault) = (before ≤ now) × Rose before now
 BuildRose before now (Err NoMemory) = now ≡ before
-
--- what preparing a build answers: a project within its limits, or why there is none
-abbrev pub Prepares : {T : Type 0} → (T → Contents) → List ℕ → List MemFile → Result T BuildErr → Type 0
-Prepares project folder files (Ok made) = ProjectOf files folder (project made)
-Prepares project folder files (Err (Project fault)) = ProjectFault files folder fault
-Prepares project folder files (Err (TooLarge which n)) = (p : Contents) × ProjectOf files folder p × IsTooLarge p which n
-Prepares project folder files (Err (NameTaken name)) = ⊥
-Prepares project folder files (Err DepotFault) = Unit {0}
-Prepares project folder files (Err NoMemory) = Unit {0}
-
--- why a project isn't within its limits
-abbrev pub IsUnfit : {T : Type 0} → Contents → Result T BuildErr → Type 0
-IsUnfit p (Ok made) = Unit {0}
-IsUnfit p (Err (Project fault)) = ⊥
-IsUnfit p (Err (TooLarge which n)) = IsTooLarge p which n
-IsUnfit p (Err (NameTaken name)) = ⊥
-IsUnfit p (Err DepotFault) = ⊥
-IsUnfit p (Err NoMemory) = Unit {0}

@@ -1,17 +1,11 @@
--- One file of a release: what stands under its name, and what putting it answers and leaves.
-use Rattle.std.specs.Prelude.{ℕ, ◌≡◌, ◌≢◌, ◌⊎◌, List, [], ◌∷◌, Option, Some, None, Result, Ok, Err}
+-- Files of a release: what putting them leaves, and when a catalogue is there.
+use Rattle.std.specs.Prelude.{ℕ, ◌≡◌, List, Some, Result, Ok, Err}
 use Rattle.addr_base.specs.Files.{Store, file_at}
+use Rattle.addr_base.specs.Ids.{digest_of, hex_of}
 use Rattle.addr_base.specs.declared.depot.DepotErr.{DepotErr}
 use Rattle.addr_base.specs.declared.files.MemFile.{MemFile}
-use Rattle.addr_build.specs.declared.putting.Spot.{Spot}
-use Rattle.addr_build.specs.declared.putting.Spot.TheVariants.{Free, Same, Other}
+use Rattle.addr_release.specs.Names.{catalogue_path, hash_path}
 use Rattle.addr_build.specs.Moments.{LaysAll, LaysSome}
-
--- what stands under a name, beside some bytes
-abbrev pub IsSpotOf : Option (List ℕ) → List ℕ → Spot → Type 0
-IsSpotOf found bytes Free = found ≡ None
-IsSpotOf found bytes Same = found ≡ Some bytes
-IsSpotOf found bytes Other = (other : List ℕ) × (found ≡ Some other) × (other ≢ bytes)
 
 -- the file with that name and these bytes
 abbrev pub file_of : List ℕ → List ℕ → MemFile
@@ -21,3 +15,8 @@ file_of name bytes = record { name = name; bytes = bytes }
 abbrev pub Lays : {T : Type 0} → List MemFile → Store → Store → Result T DepotErr → Type 0
 Lays puts old new (Ok done) = LaysAll puts old new
 Lays puts old new (Err cause) = LaysSome puts old new
+
+-- a catalogue and the digits of its digest are there
+abbrev pub AreListed : List ℕ → List ℕ → List MemFile → Type 0
+AreListed folder bytes files = (file_at (catalogue_path folder) files ≡ Some bytes)
+    × (file_at (hash_path folder) files ≡ Some (hex_of (digest_of bytes)))

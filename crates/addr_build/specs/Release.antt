@@ -1,16 +1,24 @@
 -- Putting the release of a project whole: how far a build has come, and what it ends with.
-use Rattle.std.specs.Prelude.{ℕ, ◌≡◌, ◌⊎◌, List, length, map, Some, Result, Ok, Err}
-use Rattle.addr_base.specs.Files.{Store}
+use Rattle.std.specs.Prelude.{ℕ, ◌≡◌, ◌⊎◌, List, length, map, Some, not, Bool, false, Option, None}
+use Rattle.addr_base.specs.Files.{file_at}
 use Rattle.addr_base.specs.declared.files.MemFile.{MemFile}
 use Rattle.addr_pack.specs.declared.bundles.Plan.{Plan}
 use Rattle.addr_project.specs.Model.{Project}
 use Rattle.addr_release.specs.Built.{IsBundleOf, IsReleaseIn, Release, ReleaseBundle}
 use Rattle.addr_release.specs.Puts.{Test, all_bundle_tests, bundle_put, puts_of, tests_of}
 use Rattle.addr_walks.specs.Places.{EachAt}
-use Rattle.addr_build.specs.Building.{count_owed}
-use Rattle.addr_build.specs.Endings.{Ends}
-use Rattle.addr_build.specs.declared.error.PutErr.{PutErr}
 use Rattle.addr_build.specs.declared.release.Summary.{Summary}
+use Rattle.std.specs.List.{count_by}
+use Rattle.std.specs.Str.{bytes_eq}
+
+-- bytes that are there
+abbrev pub has_bytes : List ℕ → Option (List ℕ) → Bool
+has_bytes bytes None = false
+has_bytes bytes (Some found) = bytes_eq found bytes
+
+-- how many of these puts are of files that aren't there
+abbrev pub count_owed : List MemFile → List MemFile → ℕ
+count_owed files puts = count_by (λ put. not (has_bytes put.bytes (file_at put.name files))) puts
 
 -- how far a build has come: it has made the first bundles of the project's release in this placement, or all of the release;
 -- the puts of what was made, and the tests of their names
@@ -26,11 +34,3 @@ pub record Sums (folder : List ℕ) (old : List MemFile) (r : Release) (summary 
   pub bundles : summary.bundles ≡ length r.bundles
   pub put : summary.put ≡ count_owed old (map (bundle_put folder) r.bundles)
   pub rows : summary.rows ≡ length r.assets
-
--- what putting the release answers and leaves
-abbrev pub PutsRelease : Project → Plan → List ℕ → Store → Store → Result Summary PutErr → Type 0
-PutsRelease p plan folder old new (Ok summary) = (r : Release) × IsReleaseIn p plan r
-    × Ends folder (puts_of folder r) 0 (tests_of r) old new (Ok summary)
-    × ((files : List MemFile) → old.files ≡ Some files → Sums folder files r summary)
-PutsRelease p plan folder old new (Err e) = (puts : List MemFile) × (tests : List Test) × IsBegunIn p plan folder puts tests
-    × Ends {T = Summary} folder puts 0 tests old new (Err e)

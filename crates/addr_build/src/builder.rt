@@ -2,7 +2,8 @@
 ghost use Rattle.std.specs.Prelude.{◌≡◌, ℕ, List, Some, IfOk, IfSome, IsSomeAnd};
 ghost use Rattle.addr_base.specs.Files.{SameStore};
 ghost use Rattle.addr_layout.specs.Layout.{IsLayout};
-ghost use Rattle.addr_build.specs.Outcomes.{Answers, BuildRose, Builds, IsEarly, IsUnfit, IsWithin, Prepares};
+ghost use Rattle.addr_build.specs.Outcomes.{Answers, BuildRose, Builds, IsEarly, IsWithin};
+ghost use Rattle.addr_build.specs.within.Preparing.{IsUnfit, Prepares};
 
 use crate::error::BuildErr;
 use crate::release::{Summary, put_release};

@@ -4,7 +4,8 @@ ghost use Rattle.std.specs.Bool.{MatchBool};
 ghost use Rattle.addr_base.specs.Files.{FaultRose, SameStore, file_at};
 ghost use Rattle.addr_release.specs.Names.{side_path};
 ghost use Rattle.addr_state.specs.Files.{side_folder};
-ghost use Rattle.addr_build.specs.Endings.{Ends, PutRose, Tells, key_tests, name_tests};
+ghost use Rattle.addr_build.specs.Endings.{Ends, PutRose, key_tests, name_tests};
+ghost use Rattle.addr_build.specs.within.Testing.{Tells};
 ghost use Rattle.addr_build.specs.Putting.{Lays, file_of};
 
 use crate::error::PutErr;
@@ -72,7 +73,8 @@ fn put_below<D: Depot>(
     key: &str,
     bytes: &[u8],
 ) -> Result<(), DepotErr>
-    ensures puts { Lays (file_of (side_path folder.now remote key.now) bytes.now ∷ []) (D.now depot.old) (D.now depot.new) result }
+    ensures puts { Lays (file_of (side_path folder.now remote key.now) bytes.now ∷ [])
+        (D.now depot.old) (D.now depot.new) result }
     ensures cause { FaultRose (D.now depot.old).faults (D.now depot.new).faults result }
 {
     let name = below(alloc, remote, key)?;

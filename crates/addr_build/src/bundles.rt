@@ -3,7 +3,7 @@ ghost use Rattle.std.specs.Prelude.{◌≡◌, ◌<◌, if◌then◌else◌, len
 ghost use Rattle.addr_layout.specs.Layout.{IsLayout};
 ghost use Rattle.addr_pack.specs.Placement.{IsPlaced};
 ghost use Rattle.addr_release.specs.Built.{IsBundleOf};
-ghost use Rattle.addr_build.specs.Building.{PutsBundles, PutsOne, release_bundle};
+ghost use Rattle.addr_build.specs.within.Building.{PutsBundles, PutsOne, release_bundle};
 ghost use Rattle.addr_build.specs.Endings.{PutRose};
 
 use crate::bundle_puts::put_bundle;

@@ -1,12 +1,13 @@
 // Putting what tells of a release: its content state, its catalogue, and the catalogue's hash.
-ghost use Rattle.std.specs.Prelude.{◌≡◌, ◌∷◌, [], ◌++◌, codes, Some, IfOk, IfSome};
+ghost use Rattle.std.specs.Prelude.{◌≡◌, ◌∷◌, [], ◌++◌, codes, false, None, Some, Ok, IfOk, IfSome};
+ghost use Rattle.std.specs.Bool.{MatchBool};
 ghost use Rattle.addr_base.specs.Files.{FaultRose, SameStore, file_at};
 ghost use Rattle.addr_base.specs.Ids.{digest_of, hex_of};
 ghost use Rattle.addr_project.specs.Reading.{path};
-ghost use Rattle.addr_release.specs.Names.{digest_from, state_file};
+ghost use Rattle.addr_release.specs.Names.{digest_from, state_file, state_path};
 ghost use Rattle.addr_release.specs.Puts.{catalogue_put, hash_put, state_put};
 ghost use Rattle.addr_build.specs.Endings.{Ends, PutRose, name_tests};
-ghost use Rattle.addr_build.specs.Putting.{Lays, file_of};
+ghost use Rattle.addr_build.specs.Putting.{AreListed, Lays, file_of};
 
 use crate::error::PutErr;
 use crate::putting::put_file;
@@ -33,6 +34,10 @@ pub fn put_state<D: Depot>(
     ensures ends { Ends folder.now (state_put folder.now bytes.now ∷ []) 0
         (name_tests 0 (state_file (Some (digest_from bytes.now))) bytes.now)
         (D.now depot.old) (D.now depot.new) result }
+    ensures put { IfSome (D.now depot.old).files (λ files. IfOk result (λ put. MatchBool put
+        (file_at (state_path folder.now (Some (digest_from bytes.now))) files ≡ None)
+        (file_at (state_path folder.now (Some (digest_from bytes.now))) files ≡ Some bytes.now))) }
+    ensures again { result ≡ Ok false → SameStore (D.now depot.old) (D.now depot.new) }
     ensures cause { PutRose (D.now depot.old).faults (D.now depot.new).faults result }
 {
     let name = state_name(alloc, bytes)?;
@@ -76,6 +81,8 @@ pub fn put_catalogue<D: Depot>(
 ) -> Result<(), DepotErr>
     ensures puts { Lays (catalogue_put folder.now bytes.now ∷ hash_put folder.now bytes.now ∷ [])
         (D.now depot.old) (D.now depot.new) result }
+    ensures again { IfSome (D.now depot.old).files (λ files. AreListed folder.now bytes.now files
+        → SameStore (D.now depot.old) (D.now depot.new)) }
     ensures cause { FaultRose (D.now depot.old).faults (D.now depot.new).faults result }
 {
     let digits = digits_of(alloc, bytes)?;

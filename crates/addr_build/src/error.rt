@@ -26,7 +26,7 @@ impl From<NoMemory> for PutErr {
 }
 
 impl From<DepotErr> for PutErr {
-    ghost use Rattle.addr_build.specs.FromDepot.{of_depot};
+    ghost use Rattle.addr_build.specs.within.FromDepot.{of_depot};
 
     ghost from_gives = { λ cause e. e ≡ of_depot cause };
 
@@ -61,7 +61,7 @@ impl From<NoMemory> for BuildErr {
 }
 
 impl From<ProjectErr> for BuildErr {
-    ghost use Rattle.addr_build.specs.FromCauses.{of_project};
+    ghost use Rattle.addr_build.specs.within.FromCauses.{of_project};
 
     ghost from_gives = { λ cause e. e ≡ of_project cause };
 
@@ -75,7 +75,7 @@ impl From<ProjectErr> for BuildErr {
 }
 
 impl From<LimitErr> for BuildErr {
-    ghost use Rattle.addr_build.specs.FromCauses.{of_limit};
+    ghost use Rattle.addr_build.specs.within.FromCauses.{of_limit};
 
     ghost from_gives = { λ cause e. e ≡ of_limit cause };
 
@@ -88,7 +88,7 @@ impl From<LimitErr> for BuildErr {
 }
 
 impl From<PutErr> for BuildErr {
-    ghost use Rattle.addr_build.specs.FromCauses.{of_put};
+    ghost use Rattle.addr_build.specs.within.FromCauses.{of_put};
 
     ghost from_gives = { λ cause e. e ≡ of_put cause };
 

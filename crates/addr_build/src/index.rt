@@ -6,7 +6,7 @@ ghost use Rattle.addr_pack.specs.Placement.{IsPlaced};
 ghost use Rattle.addr_release.specs.Built.{IsBundleOf, ReleaseBundle};
 ghost use Rattle.addr_walks.specs.Places.{EachAt};
 ghost use Rattle.addr_images.specs.States.{AreBundleRows};
-ghost use Rattle.addr_build.specs.Index.{IndexOf, IsStateText};
+ghost use Rattle.addr_build.specs.within.Index.{IndexOf, IsStateText};
 
 use addr_base::{Items, NoMemory, digest};
 use addr_images::{catalogue_of, entries_of, state_of};

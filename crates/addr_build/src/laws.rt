@@ -6,8 +6,8 @@ ghost use Rattle.addr_release.specs.Puts.{IsAfter, Test};
 ghost use Rattle.addr_build.specs.Laws.{IsOldOrNew};
 ghost use Rattle.addr_build.specs.Outcomes.{IsBegun};
 
-/// After however many puts of a build, and so at each of its moments, the catalogue is the old one or that of the project's
-/// release.
+/// After however many puts of a build, and so at each of its moments, the catalogue is the old one or that of the
+/// project's release.
 pub fn build_laws()
     ensures { (p : Project) (folder : List ℕ) (puts : List File) (tests : List Test) (k : ℕ) (old new : List File)
         → IsBegun p folder puts tests → IsAfter (take k puts) old new → IsOldOrNew p folder old new }

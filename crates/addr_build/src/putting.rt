@@ -2,7 +2,8 @@
 ghost use Rattle.std.specs.Prelude.{◌≡◌, ◌∷◌, [], IfOk, IfSome, Some};
 ghost use Rattle.std.specs.Option.{option_map};
 ghost use Rattle.addr_base.specs.Files.{FaultRose, SameStore, file_at};
-ghost use Rattle.addr_build.specs.Putting.{IsSpotOf, Lays, file_of};
+ghost use Rattle.addr_build.specs.Putting.{Lays, file_of};
+ghost use Rattle.addr_build.specs.within.Testing.{IsSpotOf};
 
 use addr_base::{Depot, DepotErr, is_same};
 use std::alloc::Global;

@@ -4,7 +4,7 @@ ghost use Rattle.addr_layout.specs.Layout.{IsLayout};
 ghost use Rattle.addr_pack.specs.LongNames.{NamesFit};
 ghost use Rattle.addr_pack.specs.Placement.{IsPlaced};
 ghost use Rattle.addr_build.specs.Endings.{PutRose};
-ghost use Rattle.addr_build.specs.Release.{PutsRelease};
+ghost use Rattle.addr_build.specs.within.Building.{PutsRelease};
 
 use crate::bundles::put_bundles;
 use crate::catalogue_puts::put_state_and_catalogue;

@@ -1,8 +1,10 @@
 // Putting a file whose name may be taken: the name is tested first, and the file is put only where it isn't there.
-ghost use Rattle.std.specs.Prelude.{◌≡◌, ◌∷◌, [], IfOk, IfSome};
-ghost use Rattle.addr_base.specs.Files.{FaultRose, SameStore};
+ghost use Rattle.std.specs.Prelude.{◌≡◌, ◌∷◌, [], false, None, Some, Ok, IfOk, IfSome};
+ghost use Rattle.std.specs.Bool.{MatchBool};
+ghost use Rattle.addr_base.specs.Files.{FaultRose, SameStore, file_at};
 ghost use Rattle.addr_project.specs.Reading.{path};
-ghost use Rattle.addr_build.specs.Endings.{Ends, Owes, PutRose, Tells, name_tests};
+ghost use Rattle.addr_build.specs.Endings.{Ends, PutRose, name_tests};
+ghost use Rattle.addr_build.specs.within.Testing.{Owes, Tells};
 ghost use Rattle.addr_build.specs.Putting.{Lays, file_of};
 
 use crate::error::PutErr;
@@ -78,6 +80,10 @@ pub(crate) fn put_tested<D: Depot>(
 ) -> Result<bool, PutErr>
     ensures ends { Ends folder.now (file_of (path folder.now name.now) bytes.now ∷ []) 0
         (name_tests 0 name.now bytes.now) (D.now depot.old) (D.now depot.new) result }
+    ensures put { IfSome (D.now depot.old).files (λ files. IfOk result (λ put. MatchBool put
+        (file_at (path folder.now name.now) files ≡ None)
+        (file_at (path folder.now name.now) files ≡ Some bytes.now))) }
+    ensures again { result ≡ Ok false → SameStore (D.now depot.old) (D.now depot.new) }
     ensures cause { PutRose (D.now depot.old).faults (D.now depot.new).faults result }
 {
     if is_owed(alloc, depot, folder, name, bytes)? {

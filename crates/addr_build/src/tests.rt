@@ -35,9 +35,11 @@ const GAME: &str = "\
 
 const CATALOGUE: &str = "F/remote/catalog_main.json";
 
-/// The calls of a build are these two puts, 13 reads of the project, three for each bundle, and two for each of state,
-/// catalogue and hash.
-const PUTS: [u32; 8] = [18, 21, 24, 27, 30, 32, 34, 36];
+/// The calls of the third put, of the catalogue's and of the hash's, counted from the two that lay the project down: 13
+/// reads of the project, then three calls for each bundle and two for each of state, catalogue and hash.
+const THIRD: u32 = 24;
+const LISTING: u32 = 34;
+const HASH: u32 = 36;
 
 fn folder(alloc: Global, project: &str) -> Result<MemDepot, NoMemory> {
     let mut depot = MemDepot::new(Vec::new(alloc), Vec::new(alloc));
@@ -79,18 +81,19 @@ fn puts_no_file_twice(rt: HostRuntime) -> Result<(), Fail> {
     Ok(())
 }
 
-/// Which put fails, whether it took effect, whether the catalogue is there behind it, and how many bundles the next build puts.
+/// Which call fails, whether its put took effect, whether the catalogue is there then, and how many bundles the next build
+/// puts.
 #[test]
 fn goes_on_after_a_stop(rt: HostRuntime) -> Result<(), Fail> {
-    for (put, effect, listed, left) in [
-        (3, false, false, 3),
-        (3, true, false, 2),
-        (7, false, false, 0),
-        (7, true, true, 0),
-        (8, false, true, 0),
+    for (call, effect, listed, left) in [
+        (THIRD, false, false, 3),
+        (THIRD, true, false, 2),
+        (LISTING, false, false, 0),
+        (LISTING, true, true, 0),
+        (HASH, false, true, 0),
     ] {
         let mut depot = folder(rt.alloc(), GAME)?;
-        depot.fail_at(PUTS[put - 1], effect)?;
+        depot.fail_at(call, effect)?;
         assert!(rt; is_fault(build(rt.alloc(), &mut depot, "F")));
         assert_eq!(rt; depot.file(CATALOGUE).is_some(), listed);
         assert!(rt; has_built(build(rt.alloc(), &mut depot, "F"), left));

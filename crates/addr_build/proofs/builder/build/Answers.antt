@@ -1,6 +1,6 @@
 use Rattle.std.proofs.Common.{subst, sym}
 use Rattle.std.specs.Prelude.{IfSome, IsSomeAnd}
-use Rattle.addr_build.specs.FromCauses.{of_put}
+use Rattle.addr_build.specs.within.FromCauses.{of_put}
 use Rattle.addr_build.specs.Outcomes.{Answers}
 use Rattle.addr_build.proofs.BuildLemmas.{answers-done, answers-stopped, build-done, build-stopped}
 use Rattle.addr_build.proofs.EndLemmas.{err-is}

@@ -1,6 +1,7 @@
 use Rattle.std.proofs.Common.{arith, Bool, Ok, IfSome, [], ◌∷◌, subst, sym}
 use Rattle.addr_release.specs.Names.{side_path}
-use Rattle.addr_build.specs.Endings.{Ends, Tells, key_tests}
+use Rattle.addr_build.specs.Endings.{Ends, key_tests}
+use Rattle.addr_build.specs.within.Testing.{Tells}
 use Rattle.addr_build.specs.Putting.{file_of}
 use Rattle.addr_build.proofs.EndLemmas.{ends-refused, ends-there, err-is}
 use Rattle.addr_build.proofs.bundle_puts.put_bundle.Goals as goal

@@ -1,5 +1,5 @@
 use Rattle.std.proofs.Common.{◌≡◌, ◌∙◌, ◌+◌, [], ◌∷◌, ◌++◌, cond, length, refl, ap, subst, sym, arith, length-append}
-use Rattle.addr_build.specs.Building.{AreLaid, PutsBundles}
+use Rattle.addr_build.specs.within.Building.{AreLaid, PutsBundles}
 use Rattle.addr_build.specs.declared.error.PutErr.TheVariants.{NoMemory}
 use Rattle.addr_build.proofs.EndLemmas.{err-is}
 use Rattle.addr_build.proofs.LaidLemmas.{laid-none, laid-next, laid-memory, laid-stops, count-few, many}

@@ -1,5 +1,5 @@
 use Rattle.std.proofs.Common.{◌≡◌, ◌≤◌, length}
-use Rattle.addr_build.specs.Building.{AreLaid}
+use Rattle.addr_build.specs.within.Building.{AreLaid}
 use Rattle.addr_build.proofs.bundles.put_bundles.Given as goal
 
 abbrev pub invariant-loop-b : goal.invariant-loop-b

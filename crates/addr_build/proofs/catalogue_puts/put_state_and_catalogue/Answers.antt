@@ -2,7 +2,7 @@ use Rattle.std.proofs.Common.{Some, [], ◌∷◌, ◌++◌, Bool, subst, sym}
 use Rattle.addr_release.specs.Names.{digest_from, state_file}
 use Rattle.addr_release.specs.Puts.{catalogue_put, hash_put, state_put}
 use Rattle.addr_build.specs.Endings.{Ends, name_tests}
-use Rattle.addr_build.specs.FromDepot.{of_depot}
+use Rattle.addr_build.specs.within.FromDepot.{of_depot}
 use Rattle.addr_build.proofs.EndLemmas.{ends-more, ends-some, err-is}
 use Rattle.addr_build.proofs.PutLemmas.{lays-then, lays-all-then}
 use Rattle.addr_build.proofs.catalogue_puts.put_state_and_catalogue.Goals as goal

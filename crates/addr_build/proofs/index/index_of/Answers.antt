@@ -1,5 +1,5 @@
 use Rattle.std.proofs.Common.{subst}
-use Rattle.addr_build.specs.Index.{IsStateText}
+use Rattle.addr_build.specs.within.Index.{IsStateText}
 use Rattle.addr_build.proofs.IndexLemmas.{index-is}
 use Rattle.addr_build.proofs.index.index_of.Goals as goal
 

@@ -1,5 +1,5 @@
 use Rattle.std.proofs.Common.{◌∙◌, refl, subst, sym, ap, length}
-use Rattle.addr_build.specs.Release.{PutsRelease}
+use Rattle.addr_build.specs.within.Building.{PutsRelease}
 use Rattle.addr_build.specs.declared.error.PutErr.TheVariants.{NoMemory}
 use Rattle.addr_build.proofs.EndLemmas.{err-is}
 use Rattle.addr_build.proofs.IndexLemmas.{laid-rows}

@@ -1,6 +1,6 @@
 use Rattle.std.proofs.Common.{subst, ◌∙◌}
 use Rattle.addr_base.specs.Files.{file_at}
-use Rattle.addr_build.specs.Putting.{IsSpotOf}
+use Rattle.addr_build.specs.within.Testing.{IsSpotOf}
 use Rattle.addr_build.proofs.EndLemmas.{tells-spot, rose-spot}
 use Rattle.addr_build.proofs.PutLemmas.{if-told, told-at}
 use Rattle.addr_build.proofs.testing.is_owed.Goals as goal

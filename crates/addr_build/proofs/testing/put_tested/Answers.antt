@@ -1,6 +1,7 @@
 use Rattle.std.proofs.Common.{arith, Bool, Ok, IfSome, [], ◌∷◌, subst, sym}
 use Rattle.addr_project.specs.Reading.{path}
-use Rattle.addr_build.specs.Endings.{Ends, Tells, name_tests}
+use Rattle.addr_build.specs.Endings.{Ends, name_tests}
+use Rattle.addr_build.specs.within.Testing.{Tells}
 use Rattle.addr_build.specs.Putting.{file_of}
 use Rattle.addr_build.proofs.EndLemmas.{ends-refused, ends-there, err-is}
 use Rattle.addr_build.proofs.testing.put_tested.Goals as goal

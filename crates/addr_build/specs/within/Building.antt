@@ -1,32 +1,23 @@
--- Putting the release of a project: which bundles were put, how many of their files weren't there, and how it stops.
-use Rattle.std.specs.Prelude.{ℕ, ◌≡◌, ◌≤◌, ◌⊎◌, not, Bool, false, List, [], ◌∷◌, length, map, Option, Some, None, Result, Ok, Err}
+-- Making and putting bundles one after the other, and then the rest of a release.
+use Rattle.std.specs.Prelude.{ℕ, ◌≡◌, ◌≤◌, ◌⊎◌, List, [], ◌∷◌, length, map, Some, None, Result, Ok, Err}
 use Rattle.std.specs.Bool.{MatchBool}
-use Rattle.std.specs.List.{count_by}
-use Rattle.std.specs.Str.{bytes_eq}
 use Rattle.addr_base.specs.Files.{SameStore, Store, file_at}
 use Rattle.addr_base.specs.declared.files.MemFile.{MemFile}
 use Rattle.addr_locate.specs.declared.rows.BundleRow.{BundleRow}
 use Rattle.addr_pack.specs.declared.bundles.Plan.{Plan}
 use Rattle.addr_project.specs.Model.{Project}
-use Rattle.addr_release.specs.Built.{IsBundleOf, ReleaseBundle}
-use Rattle.addr_release.specs.Puts.{Test, all_bundle_tests, bundle_put, bundle_tests, first_taken}
+use Rattle.addr_release.specs.Built.{IsBundleOf, ReleaseBundle, IsReleaseIn, Release}
+use Rattle.addr_release.specs.Puts.{all_bundle_tests, bundle_put, bundle_tests, first_taken, Test, puts_of, tests_of}
 use Rattle.addr_walks.specs.Places.{EachAt}
-use Rattle.addr_build.specs.Endings.{Ends}
 use Rattle.addr_build.specs.Moments.{LaysAll}
 use Rattle.addr_build.specs.declared.error.PutErr.{PutErr}
 use Rattle.addr_build.specs.declared.error.PutErr.TheVariants.{NoMemory}
 use Rattle.addr_build.specs.declared.bundles.MadeBundle.{MadeBundle}
 use Rattle.addr_build.specs.declared.bundles.PutBundle.{PutBundle}
 use Rattle.addr_build.specs.declared.bundles.PutBundles.{PutBundles}
-
--- bytes that are there
-abbrev pub has_bytes : List ℕ → Option (List ℕ) → Bool
-has_bytes bytes None = false
-has_bytes bytes (Some found) = bytes_eq found bytes
-
--- how many of these puts are of files that aren't there
-abbrev pub count_owed : List MemFile → List MemFile → ℕ
-count_owed files puts = count_by (λ put. not (has_bytes put.bytes (file_at put.name files))) puts
+use Rattle.addr_build.specs.declared.release.Summary.{Summary}
+use Rattle.addr_build.specs.Release.{IsBegunIn, Sums, count_owed}
+use Rattle.addr_build.specs.Endings.{Ends}
 
 -- a bundle that was made, as one of a release
 abbrev pub release_bundle : MadeBundle → ReleaseBundle
@@ -45,7 +36,8 @@ PutsOne p plan folder b old new (Err e) =
     ⊎ (SameStore old new × (e ≡ NoMemory))
 
 -- the first bundles of a project's release were put, and none of their names was taken
-pub record AreLaid (p : Project) (plan : Plan) (folder : List ℕ) (old new : Store) (rows : List BundleRow) (put : ℕ) : Type 0 where
+pub record AreLaid (p : Project) (plan : Plan) (folder : List ℕ) (old new : Store)
+    (rows : List BundleRow) (put : ℕ) : Type 0 where
   pub bundles : List ReleaseBundle
   pub each : EachAt (IsBundleOf p plan) bundles
   pub told : rows ≡ map (λ made. made.row) bundles
@@ -63,3 +55,11 @@ abbrev pub PutsBundles : Project → Plan → List ℕ → Store → Store → R
 PutsBundles p plan folder old new (Ok laid) =
     AreLaid p plan folder old new laid.rows laid.put × (length laid.rows ≡ length plan.bundles) × (laid.put ≤ length laid.rows)
 PutsBundles p plan folder old new (Err e) = StopsIn p plan folder old new e
+
+-- what putting the release answers and leaves
+abbrev pub PutsRelease : Project → Plan → List ℕ → Store → Store → Result Summary PutErr → Type 0
+PutsRelease p plan folder old new (Ok summary) = (r : Release) × IsReleaseIn p plan r
+    × Ends folder (puts_of folder r) 0 (tests_of r) old new (Ok summary)
+    × ((files : List MemFile) → old.files ≡ Some files → Sums folder files r summary)
+PutsRelease p plan folder old new (Err e) = (puts : List MemFile) × (tests : List Test) × IsBegunIn p plan folder puts tests
+    × Ends {T = Summary} folder puts 0 tests old new (Err e)
