@@ -19,4 +19,4 @@ pub use ask::Ask;
 pub use error::LoadErr;
 pub use event::Event;
 pub use laws::{legal_histories, worked_examples};
-pub use reading::ReadErr;
+pub use reading::{Item2, ReadErr};

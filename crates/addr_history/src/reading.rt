@@ -1,5 +1,5 @@
-// Why an asset isn't read, in the order of the tests.
-use addr_base::{BundleNo, Cause, NoMemory};
+// What reading an asset gives, and why it is refused.
+use addr_base::{BundleNo, Cause, Guid, Items, NoMemory};
 
 /// Why an asset isn't read, in the order of the tests. The machine is as before.
 #[derive(Clone, Copy, Debug, PartialEq, Eq)]
@@ -26,4 +26,12 @@ impl From<NoMemory> for ReadErr {
     fn from(_: NoMemory) -> Self {
         ReadErr::NoMemory
     }
+}
+
+/// One asset of an unfolding: its bytes, and the assets that it refers to.
+#[derive(Debug, Drop)]
+pub struct Item2 {
+    pub guid: Guid,
+    pub bytes: Items<u8>,
+    pub refs: Items<Guid>,
 }
