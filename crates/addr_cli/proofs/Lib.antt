@@ -1,6 +1,7 @@
-pub mod WordLemmas
+pub mod ListingLemmas
 pub mod OnceLemmas
 pub mod OutcomeLemmas
-pub mod ListingLemmas
 pub mod PlanningLemmas
+pub mod ScriptLemmas
 pub mod ServingLemmas
+pub mod WordLemmas
