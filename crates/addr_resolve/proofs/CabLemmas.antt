@@ -23,7 +23,7 @@ find-there {X} test (y ∷ ys) x e = by_test (test y) refl e (λ more. find-ther
     by_test true is found more = let same : y ≡ x = same-some y x found in (subst (Contains (y ∷ ys)) same (Contains-here y ys), sym (ap test same) ∙ is)
     by_test false is found more = let rest = more found in (Contains-later y ys x rest.0, rest.1)
 
-find-none : {X : Type 0} (test : X → Bool) (xs : List X) (x : X) → find test xs ≡ None → Contains xs x → test x ≡ true → ⊥
+pub find-none : {X : Type 0} (test : X → Bool) (xs : List X) (x : X) → find test xs ≡ None → Contains xs x → test x ≡ true → ⊥
 find-none test [] x e here passes = Contains-none x here
 find-none {X} test (y ∷ ys) x e here passes = by_test (test y) refl e (Contains-cases y ys x here) (λ none later. find-none test ys x none later passes)
   where

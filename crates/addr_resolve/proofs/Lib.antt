@@ -6,3 +6,4 @@ pub mod OrderLemmas
 pub mod GraphLemmas
 pub mod OpenedLemmas
 pub mod ItemLemmas
+pub mod PlaceLemmas

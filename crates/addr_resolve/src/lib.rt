@@ -14,6 +14,7 @@ mod items;
 mod losing;
 mod opening;
 mod picking;
+mod places;
 mod placing;
 mod unfolding;
 
@@ -23,5 +24,6 @@ pub use items::{Item, items_of};
 pub use losing::least_lost;
 pub use opening::open_all;
 pub use picking::picks_of;
+pub use places::places_of;
 pub use placing::{in_order, number_of};
 pub use unfolding::{Graph, Stop, unfold};
