@@ -32,7 +32,7 @@ find-none {X} test (y ∷ ys) x e here passes = by_test (test y) refl e (Contain
     by_test false is none (inl same) more = false≢true (sym is ∙ (ap test same ∙ passes))
     by_test false is none (inr later) more = more none later
 
-object_of_row : Held → ObjectRow → ObjectOut
+unfoldable pub object_of_row : Held → ObjectRow → ObjectOut
 object_of_row c o = record { guid = o.guid; bytes = object_bytes c o; refs = o.refs }
 
 -- what is lent is an object of the file

@@ -15,7 +15,15 @@ use Rattle.addr_walks.proofs.Lists.{Contains-map, map-Contains, Contains-none, C
 use Rattle.addr_resolve.specs.Items.{AreHeld, Lends}
 use Rattle.addr_resolve.specs.Places.{ArePlaces, IsPlace, row_places}
 use Rattle.addr_resolve.specs.declared.graph.PlaceRow.{PlaceRow}
-use Rattle.addr_resolve.proofs.CabLemmas.{find-none}
+use Rattle.addr_cab.specs.Objects.{objects_of}
+use Rattle.addr_cab.specs.declared.object.ObjectOut.{ObjectOut}
+use Rattle.addr_layout.specs.Agreement.{Place}
+use Rattle.addr_release.specs.Opened.{Opened, Holds}
+use Rattle.addr_walks.proofs.Lists.{slice_get-Contains}
+use Rattle.addr_walks.proofs.Zips.{zip-left, zip-right}
+use Rattle.addr_resolve.specs.Graph.{ShowsPlaces, place_at}
+use Rattle.addr_resolve.specs.Items.{ShowsCabs}
+use Rattle.addr_resolve.proofs.CabLemmas.{find-none, object_of_row}
 
 row-place : ℕ → ObjectRow → PlaceRow
 row-place b o = record { guid = o.guid; bundle = b }
@@ -87,3 +95,27 @@ take-end xs n low high = (let same : n ≡ length xs = omega (arith, low, high) 
 pub append-none : {X : Type 0} (xs : List X) → xs ≡ xs ++ []
 append-none [] = refl
 append-none (x ∷ xs) = ap (λ ys. x ∷ ys) (append-none xs)
+
+abbrev Shows : Opened → Held → Type 0
+Shows file c = file.objects ≡ objects_of c
+
+-- the places of what the bundles have are those at which their files hold something
+pub shows-places : (cabs : List Held) (places : List PlaceRow) → ArePlaces cabs places → (files : List Opened) → ShowsCabs files cabs → ShowsPlaces files places
+unfolding object_of_row
+shows-places cabs places are files shows = record {
+  held = λ n q at. held q ((are q).0 (Contains-slice_get places n q at));
+  all = λ q o holds. all q o holds;
+}
+  where
+    held : (q : PlaceRow) → IsPlace cabs q → (o : ObjectOut) × Holds files (place_at q) o
+    held q (c, at, row, here, guid) =
+        let file = zip-right Shows files cabs shows q.bundle c at in
+        (object_of_row c row, (file.0, file.1, subst (λ (os : List ObjectOut). Contains os (object_of_row c row)) (sym file.2) (Contains-map (object_of_row c) c.rows row here), guid))
+
+    all : (q : Place) (o : ObjectOut) → Holds files q o → (n : ℕ) × (row : PlaceRow) × (slice_get places n ≡ Some row) × (place_at row ≡ q)
+    all q o (file, at, here, guid) =
+        let c = zip-left Shows files cabs shows q.bundle file at in
+        let row = map-Contains (object_of_row c.0) c.0.rows o (subst (λ (os : List ObjectOut). Contains os o) c.2 here) in
+        let p : PlaceRow = record { guid = q.guid; bundle = q.bundle } in
+        let there = slice_get-Contains places p ((are p).1 (c.0, c.1, row.0, row.1, ap (λ (x : ObjectOut). x.guid) row.2 ∙ guid)) in
+        (there.0, p, there.1, refl)

@@ -42,6 +42,11 @@ Before q s = (guid_cmp q.guid s.guid ≡ Less) ⊎ ((q.guid ≡ s.guid) × (q.bu
 abbrev pub AreInOrder : List PlaceRow → Type 0
 AreInOrder places = (m n : ℕ) (q s : PlaceRow) → slice_get places m ≡ Some q → slice_get places n ≡ Some s → m < n → Before q s
 
+-- the places of a list are those at which something is held, and no others
+pub record ShowsPlaces (files : List Opened) (places : List PlaceRow) : Type 0 where
+  pub held : (n : ℕ) (q : PlaceRow) → slice_get places n ≡ Some q → (o : ObjectOut) × Holds files (place_at q) o
+  pub all : (q : Place) (o : ObjectOut) → Holds files q o → (n : ℕ) × (row : PlaceRow) × (slice_get places n ≡ Some row) × (place_at row ≡ q)
+
 -- the numbers are those of all places that hold something, in their order; rows lead where references do
 pub record IsGraph (files : List Opened) (places : List PlaceRow) (rows : List (List ℕ)) (lost : List (Option Guid)) : Type 0 where
   pub held : (n : ℕ) (q : PlaceRow) → slice_get places n ≡ Some q → (o : ObjectOut) × Holds files (place_at q) o

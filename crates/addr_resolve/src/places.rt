@@ -1,7 +1,9 @@
 // The places of all objects that bundles hold, by number.
-ghost use Rattle.std.specs.Prelude.{◌≡◌, ◌++◌, ◌<◌, ◌^◌, length, IfOk, OnOk};
+ghost use Rattle.std.specs.Prelude.{◌≡◌, ◌++◌, ◌<◌, ◌^◌, length, IfOk, List, OnOk};
 ghost use Rattle.std.specs.List.Sorted.{IsStrictlySortedBy};
-ghost use Rattle.addr_resolve.specs.Items.{AreHeld};
+ghost use Rattle.addr_release.specs.Opened.{Opened};
+ghost use Rattle.addr_resolve.specs.Graph.{AreInOrder, ShowsPlaces};
+ghost use Rattle.addr_resolve.specs.Items.{AreHeld, ShowsCabs};
 ghost use Rattle.addr_resolve.specs.Order.{place_cmp};
 ghost use Rattle.addr_resolve.specs.Places.{ArePlaces, row_places};
 
@@ -41,6 +43,9 @@ pub fn places_of(alloc: Global, cabs: &[Cab]) -> Result<Items<PlaceRow>, NoMemor
     ensures rising { IfOk result (IsStrictlySortedBy place_cmp) }
     ensures places { IfOk result (ArePlaces cabs.now) }
     ensures held { IfOk result (AreHeld cabs.now) }
+    // So they stand in their order, and are the places at which the opened files hold something.
+    ensures ordered { IfOk result AreInOrder }
+    ensures shown { IfOk result (λ places. (files : List Opened) → ShowsCabs files cabs.now → ShowsPlaces files places) }
 {
     let places = gathered(alloc, cabs)?;
     Ok(Items::from_vec(in_order(places.into_vec())))
