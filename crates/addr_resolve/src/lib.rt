@@ -27,3 +27,6 @@ pub use picking::picks_of;
 pub use places::places_of;
 pub use placing::{in_order, number_of};
 pub use unfolding::{Graph, Stop, unfold};
+
+#[cfg(test)]
+mod tests;
