@@ -1,0 +1,32 @@
+//! What the files of a release show: the bundles of a catalogue are opened, their objects are places with numbers, and the
+//! walk from a place is unfolded.
+//!
+//! Promise: `open_all` answers what the files of all rows hold, or exactly the first that is missing or can't be read
+//! (`specs/Opening.antt`); `unfold` answers exactly the unfolding over the graph of the files, or the least GUID that its
+//! walk loses (`specs/Graph.antt`, `specs/Lost.antt`).
+//! Units: bundles and places count from 0. Places stand in the order of GUIDs, and for each GUID in that of bundles.
+//! Left out: making the graph of the files, and the rows under a key. Start: `specs/Opening.antt`, then `specs/Graph.antt`.
+#![tactic(auto)]
+
+mod error;
+mod graph;
+mod items;
+mod losing;
+mod opening;
+mod picking;
+mod places;
+mod placing;
+mod unfolding;
+
+pub use error::{BundleFault, OpenErr};
+pub use graph::PlaceRow;
+pub use items::{Item, items_of};
+pub use losing::least_lost;
+pub use opening::open_all;
+pub use picking::picks_of;
+pub use places::places_of;
+pub use placing::{in_order, number_of};
+pub use unfolding::{Graph, Stop, unfold};
+
+#[cfg(test)]
+mod tests;
