@@ -38,7 +38,9 @@ const CATALOGUE: &str = "F/remote/catalog_main.json";
 /// The calls of the third put, of the catalogue's and of the hash's, counted from the two that lay the project down: 13
 /// reads of the project, then three calls for each bundle and two for each of state, catalogue and hash.
 const THIRD: u32 = 24;
+
 const LISTING: u32 = 34;
+
 const HASH: u32 = 36;
 
 fn folder(alloc: Global, project: &str) -> Result<MemDepot, NoMemory> {

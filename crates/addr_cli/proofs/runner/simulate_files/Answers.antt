@@ -7,4 +7,4 @@ pub returns-in_err-script-clause-ends : goal.returns-in_err-script-clause-ends
 returns-in_err-script-clause-ends g c =
     let R : List ℕ → Type 0 = λ bytes. ReadsScript bytes (Err c.in_err-script.field-0.0) in
     script_refused c.args.rows.now c.args.script.now c.in_ok-bytes.bytes c.in_ok-locator.locator (g.D.Depot.now c.args.depot.now) (g.D.Depot.now c.read_rows_file.new.depot) (g.D.Depot.now c.read_file.new.depot)
-        c.in_err-script.field-0.0 c.from_residual-in_err-script.result c.in_ok-locator.ensures.read c.in_ok-bytes.ensures.read c.read_rows_file.ensures.same.files (subst R c.as_slice.ensures c.in_err-script.ensures) c.from_residual-in_err-script.ensures.1
+    c.in_err-script.field-0.0 c.from_residual-in_err-script.result c.in_ok-locator.ensures.read c.in_ok-bytes.ensures.read c.read_rows_file.ensures.same.files (subst R c.as_slice.ensures c.in_err-script.ensures) c.from_residual-in_err-script.ensures.1
