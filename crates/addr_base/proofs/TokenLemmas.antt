@@ -3,7 +3,7 @@ use Rattle.std.proofs.Common.{◌≡◌, ◌≢◌, ℕ, ◌+◌, ◌*◌, ◌/�
 use Rattle.std.proofs.lemmas.Bool.Decides.{nat_tests}
 use Rattle.std.proofs.lemmas.List.{append_assoc, append-nil, drop_all, drop_more}
 use Rattle.std.proofs.lemmas.List.Elements.{All-append, All-cons, All-nil}
-use Rattle.std.specs.List.{All, AllByRecursion, AllPass, flat_map}
+use Rattle.std.specs.List.{All, AllByRecursion, AllPass, flat_map, list_all}
 use Rattle.std.proofs.lemmas.Bool.{and_parts, cases_lt, eqb-true}
 use Rattle.std.specs.Prelude.{IsOk}
 use Rattle.std.specs.Str.{IsUtf8}
@@ -125,6 +125,18 @@ pub token_of_other : (text : List ℕ) → (length text == 0) ≡ false → toke
 unfolding token_of
 token_of_other [] e = cc e
 token_of_other (b ∷ rest) e = refl
+
+-- a text of plain bytes alone is its own token
+plain_flat : (text : List ℕ) → list_all is_plain text ≡ true → flat_map token_byte text ≡ text
+plain_flat [] plain = refl
+plain_flat (b ∷ rest) plain =
+    let parts = and_parts (is_plain b) (list_all is_plain rest) plain in
+    by_test (is_plain b) b (λ spelled. spelled ++ flat_map token_byte rest ≡ b ∷ rest)
+    (λ own. ap (λ (more : List ℕ). b ∷ more) (plain_flat rest parts.1))
+    (λ other. cc (parts.0, other))
+
+pub plain_is_own : (text : List ℕ) → (length text == 0) ≡ false → list_all is_plain text ≡ true → text ≡ token_of text
+plain_is_own text filled plain = sym (token_of_other text filled ∙ plain_flat text plain)
 
 -- ---- the bytes of a token
 

@@ -1,7 +1,8 @@
-// Tokens: a text as one field of a line. A token is read loosely, the text is written again and compared, so that each
-// text has one token and nothing else is one. A reader that tests each escape was refused: it says the same twice.
-ghost use Rattle.std.specs.Prelude.{◌≡◌, ◌≢◌, ◌<◌, ◌++◌, ◌∷◌, [], ℕ, List, Option, IfOk, OnOk, string_bytes, slice_index};
-ghost use Rattle.std.specs.List.{AllPass, flat_map};
+// Tokens: a text as one field of a line. A token without an escape is its own text. Any other is read loosely, the text
+// is written again and compared, so that each text has one token and nothing else is one. A reader that tests each escape
+// was refused: it says the same twice.
+ghost use Rattle.std.specs.Prelude.{◌≡◌, ◌≢◌, ◌<◌, ◌++◌, ◌∷◌, [], ℕ, List, Option, IfOk, IfSome, OnOk, string_bytes, slice_index};
+ghost use Rattle.std.specs.List.{AllPass, flat_map, list_all};
 ghost use Rattle.std.specs.Str.{IsUtf8};
 ghost use Rattle.hex.specs.Hex.{upper_digits};
 ghost use Rattle.addr_base.specs.LooseTokens.{loose_byte, loose_digit, loose_place, loose_text};
@@ -35,6 +36,35 @@ pub fn untoken(alloc: Global, token: &str) -> Result<Option<Text>, NoMemory>
 
 /// As `untoken`, of bytes that need not be UTF-8.
 pub fn untoken_bytes(alloc: Global, token: &[u8]) -> Result<Option<Text>, NoMemory>
+    ensures { IfOk result (λ found. ReadsToken token.now found) }
+{
+    if let Some(text) = plain_text(token) {
+        return Ok(Some(Text::copy_of(alloc, text)?));
+    }
+    read_escaped(alloc, token)
+}
+
+// The text of a token in which each byte stands for itself: the token's own bytes, neither copied nor written again.
+#[tactic(auto, using(crate::proofs::TokenLemmas::plain_is_own))]
+fn plain_text(token: &[u8]) -> Option<&str>
+    ensures { IfSome result (λ text. ReadsToken token.now (Some text.now)) }
+{
+    if token.is_empty() || !are_plain(token) {
+        return None;
+    }
+    match std::str::from_utf8(token) {
+        Ok(text) => Some(text),
+        Err(_) => None,
+    }
+}
+
+fn are_plain(token: &[u8]) -> bool
+    ensures { result ≡ list_all is_plain token.now }
+{
+    token.iter().all(|byte| is_plain(*byte))
+}
+
+fn read_escaped(alloc: Global, token: &[u8]) -> Result<Option<Text>, NoMemory>
     ensures { IfOk result (λ found. ReadsToken token.now found) }
 {
     let Ok(text) = String::from_utf8(unescaped(alloc, token)?) else {

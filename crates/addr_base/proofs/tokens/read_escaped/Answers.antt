@@ -1,7 +1,7 @@
 use Rattle.std.proofs.Common.{◌≡◌, IsTrue, sym, ◌∙◌, ap, string_bytes}
 use Rattle.addr_base.specs.Tokens.{token_of}
 use Rattle.addr_base.proofs.TokenLemmas.{err_not_ok, loose_of_token}
-use Rattle.addr_base.proofs.tokens.untoken_bytes.Goals as goal
+use Rattle.addr_base.proofs.tokens.read_escaped.Goals as goal
 
 pub returns-in_default : goal.returns-in_default
 returns-in_default c =
