@@ -12,6 +12,7 @@ ghost use Rattle.addr_cab.specs.Format.{AreBytes, IsTable};
 ghost use Rattle.addr_cab.specs.Faults.{has_guid, table_read};
 ghost use Rattle.addr_cab.specs.Lookup.{object_bytes, CabRead, HoldsTable, HasFault, HasNoTable};
 ghost use Rattle.addr_cab.specs.Objects.{IsCab, objects_of, AnswersCab, AnswersFault};
+ghost use Rattle.addr_cab.specs.Searches.{Ascend};
 
 use crate::ascending::Ascending;
 use crate::error::CabErr;
@@ -60,9 +61,10 @@ impl Cab {
         }
     }
 
-    /// The objects in the order of their GUIDs, each with its length and its references.
+    /// The objects in the order of their GUIDs, each GUID once, each with its length and its references.
     pub fn objects(&self) -> &[ObjectRow]
-        ensures { result.now ≡ self.now.rows }
+        ensures rows { result.now ≡ self.now.rows }
+        ensures rising { Ascend (λ o. o.guid.0) self.now.rows }
     {
         self.rows.as_slice()
     }
