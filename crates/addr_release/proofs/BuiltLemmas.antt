@@ -1,8 +1,9 @@
 -- A full build: every place of a member is good, so the release shows what the project shows, is sound, and holds its state.
-use Rattle.std.proofs.Common.{◌≡◌, ◌↔◌, ℕ, List, [], ◌∷◌, map, None, Some, refl, sym, ap, subst, ◌∙◌, ◌⊎◌, inl, inr, Bool, true, false}
-use Rattle.std.proofs.lemmas.List.{length-map}
-use Rattle.std.proofs.lemmas.List.Elements.{Contains-append_left, Contains-append_right, Contains-push}
-use Rattle.std.specs.List.{AllZip, slice_get}
+use Rattle.std.proofs.Common.{◌≡◌, ◌↔◌, ℕ, suc, ◌+◌, ◌-◌, ◌<◌, arith, List, [], ◌∷◌, ◌++◌, length, map, take, None, Some, refl, sym, ap, subst, ◌∙◌, ◌⊎◌, inl, inr, Bool, true, false}
+use Rattle.std.proofs.lemmas.List.{length-append, length-map}
+use Rattle.std.proofs.lemmas.List.Elements.{Contains-append_cases, Contains-append_left, Contains-append_right, Contains-push}
+use Rattle.std.proofs.Math.Seq.{take-append-add, take-length}
+use Rattle.std.specs.List.{AllZip, Contains, slice_get}
 use Rattle.std.specs.Option.{option_or}
 use Rattle.addr_base.specs.Files.{file_at}
 use Rattle.addr_base.specs.declared.files.MemFile.{MemFile}
@@ -29,7 +30,7 @@ use Rattle.addr_project.proofs.OnceLemmas.{from_map}
 use Rattle.addr_unityfs.proofs.Promises.{is_bundle}
 use Rattle.addr_unityfs.specs.declared.bundle.Bundle.{Bundle}
 use Rattle.addr_walks.specs.Walks.Leads.{stays}
-use Rattle.addr_walks.proofs.Lists.{Contains-here, Contains-map, Contains-slice_get}
+use Rattle.addr_walks.proofs.Lists.{Contains-cases, Contains-here, Contains-map, Contains-none, Contains-slice_get}
 use Rattle.addr_release.specs.Built.{IsEntryRow, IsFileOf, IsReleaseIn, IsReleaseOf, Release, ReleaseBundle, catalogue_of}
 use Rattle.addr_release.specs.Held.{HasDigest, IsHeld}
 use Rattle.addr_release.specs.Images.{AreObjects, NamesApart}
@@ -46,7 +47,7 @@ use Rattle.addr_release.proofs.KeyLemmas.{zip-unmap}
 use Rattle.addr_release.proofs.NameLemmas.{release-once}
 use Rattle.addr_release.proofs.OpenedLemmas.{files-apart, same-ok}
 use Rattle.addr_release.proofs.OwnLemmas.{are-named, one-release}
-use Rattle.addr_release.proofs.PutLemmas.{after-there, once-agree}
+use Rattle.addr_release.proofs.PutLemmas.{after-there, after-there-one, once-agree, take-within}
 use Rattle.addr_release.proofs.ReleaseLemmas as release
 use Rattle.addr_release.proofs.SoundLemmas as sound
 use Rattle.addr_release.proofs.TestLemmas.{none-after, side-free}
@@ -100,33 +101,56 @@ found-file files folder key file false there free = ap (λ o. option_or o (file_
 found-file files folder key file true there (inl none) = ap (λ o. option_or o (file_at (side_path folder true key) files)) none ∙ there
 found-file files folder key file true there (inr some) = ap (λ o. option_or o (file_at (side_path folder true key) files)) some
 
-module _ (p : Project) (plan : Plan) (r : Release) (placed : IsPlaced p plan) (is : IsReleaseIn p plan r) (folder : List ℕ) (old files : List MemFile)
-    (none : NoneTaken old folder r) (after : IsAfter (puts_of folder r) old files) where
+-- the files of a release but for the hash: what a folder shows doesn't depend on that
+abbrev pub listed_puts : List ℕ → Release → List MemFile
+listed_puts folder r = content_puts folder r ++ catalogue_put folder r.catalogue ∷ []
+
+-- they are there once the catalogue is put, whether or not the hash is
+pub listed-there : (folder : List ℕ) (r : Release) → AreNamed r.bundles → (k : ℕ) (old new : List MemFile) → length (content_puts folder r) < k → IsAfter (take k (puts_of folder r)) old new → AreThere (listed_puts folder r) new
+listed-there folder r named k old new past after put here =
+    after-there-one (take k (puts_of folder r)) old new after put (λ g there same. once-agree (puts_of folder r) (release-once folder r named) g put (take-within k (puts_of folder r) g there) (take-within k (puts_of folder r) put within) same) within
+  where
+    j : ℕ
+    j = k - length (content_puts folder r) - 1
+
+    split : take k (puts_of folder r) ≡ content_puts folder r ++ catalogue_put folder r.catalogue ∷ take j (hash_put folder r.catalogue ∷ [])
+    split = (let e : k ≡ length (content_puts folder r) + (j + 1) = omega (arith, past) in ap (λ n. take n (puts_of folder r)) e) ∙ (take-append-add (content_puts folder r) (catalogue_put folder r.catalogue ∷ hash_put folder r.catalogue ∷ []) (j + 1) ∙ first j)
+      where
+        first : (n : ℕ) → content_puts folder r ++ take (n + 1) (catalogue_put folder r.catalogue ∷ hash_put folder r.catalogue ∷ []) ≡ content_puts folder r ++ catalogue_put folder r.catalogue ∷ take n (hash_put folder r.catalogue ∷ [])
+        first n = let e : n + 1 ≡ suc n = omega arith in ap (λ m. content_puts folder r ++ take m (catalogue_put folder r.catalogue ∷ hash_put folder r.catalogue ∷ [])) e
+
+    by_last : (catalogue_put folder r.catalogue ≡ put) ⊎ Contains [] put → Contains (content_puts folder r ++ catalogue_put folder r.catalogue ∷ take j (hash_put folder r.catalogue ∷ [])) put
+    by_last (inl same) = Contains-append_right (content_puts folder r) (catalogue_put folder r.catalogue ∷ take j (hash_put folder r.catalogue ∷ [])) put (subst (Contains (catalogue_put folder r.catalogue ∷ take j (hash_put folder r.catalogue ∷ []))) same (Contains-here (catalogue_put folder r.catalogue) (take j (hash_put folder r.catalogue ∷ []))))
+    by_last (inr none) = absurd (Contains-none put none)
+
+    by_case : Contains (content_puts folder r) put ⊎ Contains (catalogue_put folder r.catalogue ∷ []) put → Contains (content_puts folder r ++ catalogue_put folder r.catalogue ∷ take j (hash_put folder r.catalogue ∷ [])) put
+    by_case (inl content) = Contains-append_left (content_puts folder r) (catalogue_put folder r.catalogue ∷ take j (hash_put folder r.catalogue ∷ [])) put content
+    by_case (inr last) = by_last (Contains-cases (catalogue_put folder r.catalogue) [] put last)
+
+    within : Contains (take k (puts_of folder r)) put
+    within = subst (λ ps. Contains ps put) (sym split) (by_case (Contains-append_cases (content_puts folder r) (catalogue_put folder r.catalogue ∷ []) put here))
+
+module _ (p : Project) (plan : Plan) (r : Release) (placed : IsPlaced p plan) (is : IsReleaseIn p plan r) (folder : List ℕ) (files : List MemFile)
+    (free : NoneTaken files folder r) (there : AreThere (listed_puts folder r) files) where
   abbrev catalogue : Catalogue
   catalogue = catalogue_of r.bundles r.assets (Some (digest_from r.state_bytes))
 
-  named : AreNamed r.bundles
-  named = are-named p r (plan, placed, is)
-
-  there : AreThere (puts_of folder r) files
-  there = after-there (puts_of folder r) old files (once-agree (puts_of folder r) (release-once folder r named)) after
-
   bundle-there : (b : ℕ) (made : ReleaseBundle) → slice_get r.bundles b ≡ Some made → file_at (side_path folder made.remote made.row.key) files ≡ Some made.file
   bundle-there b made at = there (bundle_put folder made)
-      (Contains-append_left (content_puts folder r) (catalogue_put folder r.catalogue ∷ hash_put folder r.catalogue ∷ []) (bundle_put folder made)
+      (Contains-append_left (content_puts folder r) (catalogue_put folder r.catalogue ∷ []) (bundle_put folder made)
       (Contains-append_left (map (bundle_put folder) r.bundles) (state_put folder r.state_bytes ∷ []) (bundle_put folder made) (Contains-map (bundle_put folder) r.bundles made (Contains-slice_get r.bundles b made at))))
 
   state-there : file_at (state_path folder (Some (digest_from r.state_bytes))) files ≡ Some r.state_bytes
   state-there = there (state_put folder r.state_bytes)
-      (Contains-append_left (content_puts folder r) (catalogue_put folder r.catalogue ∷ hash_put folder r.catalogue ∷ []) (state_put folder r.state_bytes)
+      (Contains-append_left (content_puts folder r) (catalogue_put folder r.catalogue ∷ []) (state_put folder r.state_bytes)
       (Contains-push (map (bundle_put folder) r.bundles) (state_put folder r.state_bytes)))
 
   catalogue-there : file_at (catalogue_path folder) files ≡ Some r.catalogue
   catalogue-there = there (catalogue_put folder r.catalogue)
-      (Contains-append_right (content_puts folder r) (catalogue_put folder r.catalogue ∷ hash_put folder r.catalogue ∷ []) (catalogue_put folder r.catalogue) (Contains-here (catalogue_put folder r.catalogue) (hash_put folder r.catalogue ∷ [])))
+      (Contains-append_right (content_puts folder r) (catalogue_put folder r.catalogue ∷ []) (catalogue_put folder r.catalogue) (Contains-here (catalogue_put folder r.catalogue) []))
 
   near : (b : ℕ) (made : ReleaseBundle) → slice_get r.bundles b ≡ Some made → (file_at (side_path folder false made.row.key) files ≡ None) ⊎ (file_at (side_path folder false made.row.key) files ≡ Some made.file)
-  near b made at = side-free folder r files (none-after folder r named (puts_of folder r) old files (λ f here. here) none after) b made false at
+  near b made at = side-free folder r files free b made false at
 
   stored : (b : ℕ) (row : BundleRow) → slice_get (map (λ (made : ReleaseBundle). made.row) r.bundles) b ≡ Some row → IsStoredAs plan (AreObjects p plan) files folder b row
   stored b row at =
@@ -175,22 +199,46 @@ module _ (p : Project) (plan : Plan) (r : Release) (placed : IsPlaced p plan) (i
 
 -- ---- the laws
 
-module _ (p : Project) (plan : Plan) (kept : IsKept p) (placed : IsPlaced p plan) (r : Release) (folder : List ℕ) (old new : List MemFile)
-    (is : IsReleaseOf p r) (none : NoneTaken old folder r) (after : IsAfter (puts_of folder r) old new) where
+-- once the catalogue is put
+module _ (p : Project) (plan : Plan) (kept : IsKept p) (placed : IsPlaced p plan) (r : Release) (folder : List ℕ) (files : List MemFile)
+    (is : IsReleaseOf p r) (free : NoneTaken files folder r) (there : AreThere (listed_puts folder r) files) where
   own : IsReleaseIn p plan r
   own = subst (λ (q : Plan). IsReleaseIn p q r) (one_placement p is.0 plan is.1 placed) is.2
 
-  stands : Stands p plan new folder (catalogue_of r.bundles r.assets (Some (digest_from r.state_bytes)))
-  stands = stands-so p plan r placed own folder old new none after
+  stands : Stands p plan files folder (catalogue_of r.bundles r.assets (Some (digest_from r.state_bytes)))
+  stands = stands-so p plan r placed own folder files free there
+
+  pub listed-shows : NamesApart plan → (key : List ℕ) (shown : List Row) → Resolve files folder key shown ↔ Shown p key shown
+  listed-shows apart = built-shows p plan kept (shared p plan placed) apart files folder (catalogue_of r.bundles r.assets (Some (digest_from r.state_bytes))) stands
+
+  pub listed-sound : NamesApart plan → HasSoundRelease files folder
+  listed-sound apart = built-sound p plan kept (shared p plan placed) apart files folder (catalogue_of r.bundles r.assets (Some (digest_from r.state_bytes))) stands
+
+  pub listed-held : IsHeld files folder
+  listed-held = held-so p plan r placed own folder files free there
+
+-- after all puts
+module _ (p : Project) (plan : Plan) (kept : IsKept p) (placed : IsPlaced p plan) (r : Release) (folder : List ℕ) (old new : List MemFile)
+    (is : IsReleaseOf p r) (none : NoneTaken old folder r) (after : IsAfter (puts_of folder r) old new) where
+  named : AreNamed r.bundles
+  named = are-named p r is
+
+  free : NoneTaken new folder r
+  free = none-after folder r named (puts_of folder r) old new (λ f here. here) none after
+
+  there : AreThere (listed_puts folder r) new
+  there = listed-there folder r named (length (puts_of folder r)) old new
+      (let long = length-append (content_puts folder r) (catalogue_put folder r.catalogue ∷ hash_put folder r.catalogue ∷ []) in omega (arith, long))
+      (subst (λ ps. IsAfter ps old new) (sym (take-length (puts_of folder r))) after)
 
   pub release-shows : NamesApart plan → (key : List ℕ) (shown : List Row) → Resolve new folder key shown ↔ Shown p key shown
-  release-shows apart = built-shows p plan kept (shared p plan placed) apart new folder (catalogue_of r.bundles r.assets (Some (digest_from r.state_bytes))) stands
+  release-shows = listed-shows p plan kept placed r folder new is free there
 
   pub release-sound : NamesApart plan → HasSoundRelease new folder
-  release-sound apart = built-sound p plan kept (shared p plan placed) apart new folder (catalogue_of r.bundles r.assets (Some (digest_from r.state_bytes))) stands
+  release-sound = listed-sound p plan kept placed r folder new is free there
 
   pub release-held : IsHeld new folder
-  release-held = held-so p plan r placed own folder old new none after
+  release-held = listed-held p plan kept placed r folder new is free there
 
 -- a second build has the same release, which is there
 pub release-again : (p : Project) → IsKept p → (r s : Release) (folder : List ℕ) (old new : List MemFile) → IsReleaseOf p r → IsReleaseOf p s → NoneTaken old folder r → IsAfter (puts_of folder r) old new

@@ -13,3 +13,4 @@ pub mod ReleaseLemmas
 pub mod SoundLemmas
 pub mod BuiltLemmas
 pub mod ProjectLemmas
+pub mod StayLemmas

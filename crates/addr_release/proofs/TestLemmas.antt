@@ -23,7 +23,7 @@ use Rattle.addr_release.proofs.ContentLemmas.{behind-cases}
 
 -- ---- lists
 
-find-none : {X : Type 0} (p : X → Bool) (xs : List X) → find p xs ≡ None → (x : X) → Contains xs x → p x ≡ false
+pub find-none : {X : Type 0} (p : X → Bool) (xs : List X) → find p xs ≡ None → (x : X) → Contains xs x → p x ≡ false
 find-none p [] none x here = absurd (Contains-none x here)
 find-none p (y ∷ xs) none x here = by_test (p y) refl none (Contains-cases y xs x here) (λ rest later. find-none p xs rest x later)
   where
@@ -32,21 +32,21 @@ find-none p (y ∷ xs) none x here = by_test (p y) refl none (Contains-cases y x
     by_test false is rest (inl same) more = ap p (sym same) ∙ is
     by_test false is rest (inr later) more = more rest later
 
-none-find : {X : Type 0} (p : X → Bool) (xs : List X) → ((x : X) → Contains xs x → p x ≡ false) → find p xs ≡ None
+pub none-find : {X : Type 0} (p : X → Bool) (xs : List X) → ((x : X) → Contains xs x → p x ≡ false) → find p xs ≡ None
 none-find p [] fails = refl
 none-find p (y ∷ xs) fails = ap (λ t. cond t (Some y) (find p xs)) (fails y (Contains-here y xs)) ∙ none-find p xs (λ x here. fails x (Contains-later y xs x here))
 
 -- ---- which tests there are
 
 -- the test of a bundle's put on a side
-abbrev side_test : ℕ → ReleaseBundle → Bool → Test
+abbrev pub side_test : ℕ → ReleaseBundle → Bool → Test
 side_test n made side = record { number = n; name = side_folder side ++ made.row.key; bytes = made.file }
 
-abbrev tests_from : ℕ → List ReleaseBundle → List Test
+abbrev pub tests_from : ℕ → List ReleaseBundle → List Test
 tests_from n bundles = flat_map (λ (numbered : ℕ × ReleaseBundle). bundle_tests numbered.0 numbered.1) (enumerate_from n bundles)
 
 -- a test is one of these
-abbrev IsSideTest : ℕ → List ReleaseBundle → Test → Type 0
+abbrev pub IsSideTest : ℕ → List ReleaseBundle → Test → Type 0
 IsSideTest n bundles t = (i : ℕ) × (made : ReleaseBundle) × (side : Bool) × (slice_get bundles i ≡ Some made) × (side_test (n + i) made side ≡ t)
 
 tests-at : (n : ℕ) (bundles : List ReleaseBundle) (t : Test) → Contains (tests_from n bundles) t → IsSideTest n bundles t
@@ -69,7 +69,7 @@ tests-at n (b ∷ bundles) t here = by_local (Contains-cases (side_test n b fals
     by_local (inl same) more = (0, b, false, refl, ap (λ (j : ℕ). side_test j b false) first ∙ same)
     by_local (inr behind) more = by_remote (Contains-cases (side_test n b true) (tests_from (n + 1) bundles) t behind) more
 
-tests-here : (n : ℕ) (bundles : List ReleaseBundle) (i : ℕ) (made : ReleaseBundle) (side : Bool) → slice_get bundles i ≡ Some made → Contains (tests_from n bundles) (side_test (n + i) made side)
+pub tests-here : (n : ℕ) (bundles : List ReleaseBundle) (i : ℕ) (made : ReleaseBundle) (side : Bool) → slice_get bundles i ≡ Some made → Contains (tests_from n bundles) (side_test (n + i) made side)
 tests-here n [] i made side at = absurd (cc at)
 tests-here n (b ∷ bundles) zero made side at = subst (λ j. Contains (tests_from n (b ∷ bundles)) (side_test j made side)) first (subst (λ (x : ReleaseBundle). Contains (tests_from n (b ∷ bundles)) (side_test n x side)) (same-some b made at) (by_side side))
   where
@@ -86,7 +86,7 @@ tests-here n (b ∷ bundles) (suc i) made side at =
 
 -- ---- what isn't taken is free
 
-other-free : (bytes : List ℕ) (found : Option (List ℕ)) → are_other bytes found ≡ false → (found ≡ None) ⊎ (found ≡ Some bytes)
+pub other-free : (bytes : List ℕ) (found : Option (List ℕ)) → are_other bytes found ≡ false → (found ≡ None) ⊎ (found ≡ Some bytes)
 other-free bytes None is = inl refl
 other-free bytes (Some there) is = by_test (bytes_eq there bytes) refl is
   where
@@ -109,14 +109,14 @@ bundles-free folder bundles files none put here =
     subst (IsFree files) made.2 (other-free made.0.file (file_at (path folder test.name) files) (find-none (is_taken files folder) (all_bundle_tests bundles) none test (tests-here 0 bundles at.0 made.0 made.0.remote at.1)))
 
 module _ (folder : List ℕ) (r : Release) where
-  abbrev last : Test
+  abbrev pub last : Test
   last = state_test (length r.bundles) r.state_bytes
 
   -- a test is one of a bundle's, or the state's
   abbrev pub IsOneOf : Test → Type 0
   IsOneOf t = IsSideTest 0 r.bundles t ⊎ (last ≡ t)
 
-  test-cases : (t : Test) → Contains (tests_of r) t → IsOneOf t
+  pub test-cases : (t : Test) → Contains (tests_of r) t → IsOneOf t
   test-cases t here = by_case (Contains-append_cases (all_bundle_tests r.bundles) (last ∷ []) t here)
     where
       by_last : (last ≡ t) ⊎ Contains [] t → IsOneOf t
@@ -186,7 +186,7 @@ module _ (folder : List ℕ) (r : Release) where
         by_case (inr (inr same)) = absurd ((state-beside folder (digest_from r.state_bytes)).1 (sym (ap name_of same ∙ named)))
 
     -- a put with the name of a test has its bytes, and stands at its number
-    put-of-test : (t : Test) → IsOneOf t → (f : MemFile) → Contains (puts_of folder r) f → f.name ≡ path folder t.name → (f.bytes ≡ t.bytes) × (slice_get (puts_of folder r) t.number ≡ Some f)
+    pub put-of-test : (t : Test) → IsOneOf t → (f : MemFile) → Contains (puts_of folder r) f → f.name ≡ path folder t.name → (f.bytes ≡ t.bytes) × (slice_get (puts_of folder r) t.number ≡ Some f)
     put-of-test t (inl (i, made, side, at, is)) f here named =
         let put = side-put f i made side here at (named ∙ ap (λ (u : Test). path folder u.name) (sym is)) in
         let plain : i ≡ 0 + i = omega arith in

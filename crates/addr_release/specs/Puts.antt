@@ -1,6 +1,6 @@
 -- The puts of a release in their order, which file name they find taken first, and what they leave.
-use Rattle.std.specs.Prelude.{ℕ, ◌≡◌, length, List, [], ◌∷◌, ◌++◌, map, find, reverse, Bool, false, true, not, Option, Some, None}
-use Rattle.std.specs.List.{enumerate_from, flat_map}
+use Rattle.std.specs.Prelude.{ℕ, ◌≡◌, ◌<◌, length, List, [], ◌∷◌, ◌++◌, map, find, reverse, Bool, false, true, not, Option, Some, None}
+use Rattle.std.specs.List.{Contains, enumerate_from, flat_map}
 use Rattle.std.specs.Str.{bytes_eq}
 use Rattle.addr_base.specs.Files.{file_at}
 use Rattle.addr_base.specs.Ids.{digest_of, hex_of}
@@ -83,3 +83,7 @@ first_taken files folder tests = find (is_taken files folder) tests
 -- no name of a release is taken
 abbrev pub NoneTaken : List MemFile → List ℕ → Release → Type 0
 NoneTaken files folder r = first_taken files folder (tests_of r) ≡ None
+
+-- no name is taken that is tested for a put before the m-th
+abbrev pub AreUntaken : List MemFile → List ℕ → ℕ → List Test → Type 0
+AreUntaken files folder m tests = (test : Test) → Contains tests test → test.number < m → is_taken files folder test ≡ false

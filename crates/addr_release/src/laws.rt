@@ -23,7 +23,7 @@ pub fn release_is_one(project: &Project)
     project.kept();
 }
 
-/// So a second build finds no name taken and each of its files there: it puts nothing.
+/// So a second build finds no name taken, and each of its files there.
 pub fn release_again(project: &Project)
     ensures { (r s : Release) (folder : List ℕ) (old new : List File) → IsReleaseOf project.now r
         → IsReleaseOf project.now s → NoneTaken old folder r → IsAfter (puts_of folder r) old new
