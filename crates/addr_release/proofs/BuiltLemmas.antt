@@ -1,5 +1,5 @@
 -- A full build: every place of a member is good, so the release shows what the project shows, is sound, and holds its state.
-use Rattle.std.proofs.Common.{◌≡◌, ◌↔◌, ℕ, suc, ◌+◌, ◌-◌, ◌<◌, arith, List, [], ◌∷◌, ◌++◌, length, map, take, None, Some, refl, sym, ap, subst, ◌∙◌, ◌⊎◌, inl, inr, Bool, true, false}
+use Rattle.std.proofs.Common.{◌≡◌, ◌↔◌, ℕ, suc, ◌+◌, ◌-◌, ◌<◌, ◌^◌, arith, List, [], ◌∷◌, ◌++◌, length, map, take, None, Some, refl, sym, ap, subst, ◌∙◌, ◌⊎◌, inl, inr, Bool, true, false}
 use Rattle.std.proofs.lemmas.List.{length-append, length-map}
 use Rattle.std.proofs.lemmas.List.Elements.{Contains-append_cases, Contains-append_left, Contains-append_right, Contains-push}
 use Rattle.std.proofs.Math.Seq.{take-append-add, take-length}
@@ -8,7 +8,9 @@ use Rattle.std.specs.Option.{option_or}
 use Rattle.addr_base.specs.Files.{file_at}
 use Rattle.addr_base.specs.declared.files.MemFile.{MemFile}
 use Rattle.addr_base.specs.declared.ids.Digest.{Digest}
-use Rattle.addr_cab.specs.Objects.{IsCab}
+use Rattle.hex.specs.Hex.{IsBytes}
+use Rattle.addr_cab.specs.Objects.{HoldsCab, IsCab}
+use Rattle.addr_cab.specs.declared.object.ObjectOut.{ObjectOut}
 use Rattle.addr_cab.proofs.HoldLaws.{one_cab}
 use Rattle.addr_catalog.specs.declared.catalogue.Catalogue.{Catalogue}
 use Rattle.addr_layout.specs.Agreement.{Place}
@@ -32,7 +34,7 @@ use Rattle.addr_unityfs.specs.declared.bundle.Bundle.{Bundle}
 use Rattle.addr_walks.specs.Walks.Leads.{stays}
 use Rattle.addr_walks.proofs.Lists.{Contains-cases, Contains-here, Contains-map, Contains-none, Contains-slice_get}
 use Rattle.addr_release.specs.Built.{IsEntryRow, IsFileOf, IsReleaseIn, IsReleaseOf, Release, ReleaseBundle, catalogue_of}
-use Rattle.addr_release.specs.Held.{HasDigest, IsHeld}
+use Rattle.addr_release.specs.Held.{HasDigest, IsHeld, IsHeldAs}
 use Rattle.addr_release.specs.Images.{AreObjects, NamesApart}
 use Rattle.addr_release.specs.Laws.{AreNamed, AreThere}
 use Rattle.addr_release.specs.Names.{bundle_file, catalogue_path, digest_from, side_path, state_path}
@@ -82,20 +84,24 @@ module _ (p : Project) (plan : Plan) (kept : IsKept p) (shared : IsShared p plan
 
 -- ---- what is put stands
 
--- a written file holds its objects and no others
-holds-just : (p : Project) (plan : Plan) (b : ℕ) (file : List ℕ) (is : IsFileOf p plan b file) → HoldsJust file is.objects
-holds-just p plan b file is = record {
-  name = digest_from is.bundle.name;
-  held = is.holds;
+-- a file of bytes that holds objects holds no others
+pub holds-one : (file : List ℕ) (name : Digest) (objects : List ObjectOut) → IsBytes file → length file < 2 ^ 63 → HoldsCab file name objects → HoldsJust file objects
+holds-one file name objects bytes short holds = record {
+  name = name;
+  held = holds;
   one = λ other others held.
-      let bundle = is.holds.0 in
-      let meant = (is_bundle file bundle is.bytes is.short).1 is.holds.1 in
-      let same : held.0 ≡ bundle = same-ok held.0 bundle (sym held.1 ∙ is.holds.1) in
-      (one_cab file bundle (digest_from is.bundle.name) other is.objects others is.short meant is.holds.2 (subst (λ (x : Bundle). IsCab file x other others) same held.2)).1;
+      let bundle = holds.0 in
+      let meant = (is_bundle file bundle bytes short).1 holds.1 in
+      let same : held.0 ≡ bundle = same-ok held.0 bundle (sym held.1 ∙ holds.1) in
+      (one_cab file bundle name other objects others short meant holds.2 (subst (λ (x : Bundle). IsCab file x other others) same held.2)).1;
 }
 
+-- so does a written file
+pub holds-just : (p : Project) (plan : Plan) (b : ℕ) (file : List ℕ) (is : IsFileOf p plan b file) → HoldsJust file is.objects
+holds-just p plan b file is = holds-one file (digest_from is.bundle.name) is.objects is.bytes is.short is.holds
+
 -- a bundle's file is found, where the other side is free
-found-file : (files : List MemFile) (folder key file : List ℕ) (remote : Bool) → file_at (side_path folder remote key) files ≡ Some file
+pub found-file : (files : List MemFile) (folder key file : List ℕ) (remote : Bool) → file_at (side_path folder remote key) files ≡ Some file
     → (file_at (side_path folder false key) files ≡ None) ⊎ (file_at (side_path folder false key) files ≡ Some file) → bundle_file files folder key ≡ Some file
 found-file files folder key file false there free = ap (λ o. option_or o (file_at (side_path folder true key) files)) there
 found-file files folder key file true there (inl none) = ap (λ o. option_or o (file_at (side_path folder true key) files)) none ∙ there
@@ -135,7 +141,7 @@ module _ (p : Project) (plan : Plan) (r : Release) (placed : IsPlaced p plan) (i
   abbrev catalogue : Catalogue
   catalogue = catalogue_of r.bundles r.assets (Some (digest_from r.state_bytes))
 
-  bundle-there : (b : ℕ) (made : ReleaseBundle) → slice_get r.bundles b ≡ Some made → file_at (side_path folder made.remote made.row.key) files ≡ Some made.file
+  pub bundle-there : (b : ℕ) (made : ReleaseBundle) → slice_get r.bundles b ≡ Some made → file_at (side_path folder made.remote made.row.key) files ≡ Some made.file
   bundle-there b made at = there (bundle_put folder made)
       (Contains-append_left (content_puts folder r) (catalogue_put folder r.catalogue ∷ []) (bundle_put folder made)
       (Contains-append_left (map (bundle_put folder) r.bundles) (state_put folder r.state_bytes ∷ []) (bundle_put folder made) (Contains-map (bundle_put folder) r.bundles made (Contains-slice_get r.bundles b made at))))
@@ -182,20 +188,19 @@ module _ (p : Project) (plan : Plan) (r : Release) (placed : IsPlaced p plan) (i
   }
 
   -- the state is there, and read
+  pub held-as : IsHeldAs files folder is.alike.0 r.state
+  held-as = record {
+    bytes = r.catalogue;
+    there = catalogue-there;
+    read = is.alike.1;
+    kept = r.state_bytes;
+    kept_there = ap (λ d. file_at (state_path folder d) files) is.alike.3 ∙ state-there;
+    kept_read = is.again;
+    digest = subst (HasDigest r.state_bytes) (sym is.alike.3) refl;
+  }
+
   pub held-so : IsHeld files folder
-  held-so = (
-    is.alike.0,
-    r.state,
-    record {
-      bytes = r.catalogue;
-      there = catalogue-there;
-      read = is.alike.1;
-      kept = r.state_bytes;
-      kept_there = ap (λ d. file_at (state_path folder d) files) is.alike.3 ∙ state-there;
-      kept_read = is.again;
-      digest = subst (HasDigest r.state_bytes) (sym is.alike.3) refl;
-    },
-  )
+  held-so = (is.alike.0, r.state, held-as)
 
 -- ---- the laws
 
@@ -223,22 +228,22 @@ module _ (p : Project) (plan : Plan) (kept : IsKept p) (placed : IsPlaced p plan
   named : AreNamed r.bundles
   named = are-named p r is
 
-  free : NoneTaken new folder r
-  free = none-after folder r named (puts_of folder r) old new (λ f here. here) none after
+  pub free-after : NoneTaken new folder r
+  free-after = none-after folder r named (puts_of folder r) old new (λ f here. here) none after
 
-  there : AreThere (listed_puts folder r) new
-  there = listed-there folder r named (length (puts_of folder r)) old new
+  pub there-after : AreThere (listed_puts folder r) new
+  there-after = listed-there folder r named (length (puts_of folder r)) old new
       (let long = length-append (content_puts folder r) (catalogue_put folder r.catalogue ∷ hash_put folder r.catalogue ∷ []) in omega (arith, long))
       (subst (λ ps. IsAfter ps old new) (sym (take-length (puts_of folder r))) after)
 
   pub release-shows : NamesApart plan → (key : List ℕ) (shown : List Row) → Resolve new folder key shown ↔ Shown p key shown
-  release-shows = listed-shows p plan kept placed r folder new is free there
+  release-shows = listed-shows p plan kept placed r folder new is free-after there-after
 
   pub release-sound : NamesApart plan → HasSoundRelease new folder
-  release-sound = listed-sound p plan kept placed r folder new is free there
+  release-sound = listed-sound p plan kept placed r folder new is free-after there-after
 
   pub release-held : IsHeld new folder
-  release-held = listed-held p plan kept placed r folder new is free there
+  release-held = listed-held p plan kept placed r folder new is free-after there-after
 
 -- a second build has the same release, which is there
 pub release-again : (p : Project) → IsKept p → (r s : Release) (folder : List ℕ) (old new : List MemFile) → IsReleaseOf p r → IsReleaseOf p s → NoneTaken old folder r → IsAfter (puts_of folder r) old new

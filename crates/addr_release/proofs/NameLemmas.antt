@@ -13,7 +13,7 @@ use Rattle.addr_state.proofs.NameBytes.{digits_len, file_len}
 use Rattle.addr_walks.specs.Once.{AreOnce}
 use Rattle.addr_walks.proofs.Lists.{Contains-cases, Contains-none, Contains-slice_get, map-Contains, slice_get-push_cases}
 use Rattle.addr_release.specs.Built.{Release, ReleaseBundle}
-use Rattle.addr_release.specs.Laws.{AreNamed, IsContent, NamesOnce}
+use Rattle.addr_release.specs.Laws.{AreNamed, IsContent, NamesOnce, with_catalogue}
 use Rattle.addr_release.specs.Names.{catalogue_path, digest_from, hash_path, side_path, state_file, state_path}
 use Rattle.addr_release.specs.Puts.{bundle_put, catalogue_put, content_puts, hash_put, puts_of, state_put}
 
@@ -144,6 +144,27 @@ module _ (folder : List ℕ) (bundles : List ReleaseBundle) (are : AreNamed bund
       let apart = bundle-apart folder made.0.remote made.0.row.key (long-at made.0 made.1) in
       (λ e. apart.0 (ap name_of made.2 ∙ e), λ e. apart.1 (ap name_of made.2 ∙ e))
 
+-- content of different names has them with a catalogue and its hash behind it too
+pub with-once : (folder : List ℕ) (content : List MemFile) (bytes : List ℕ) → NamesOnce content → IsContent folder content → NamesOnce (with_catalogue folder content bytes)
+with-once folder content bytes once apart = subst AreOnce (sym shape) (once-push (map name_of content ++ catalogue_path folder ∷ []) (hash_path folder) (once-push (map name_of content) (catalogue_path folder) once no_catalogue) no_hash)
+  where
+    shape : map name_of (with_catalogue folder content bytes) ≡ (map name_of content ++ catalogue_path folder ∷ []) ++ hash_path folder ∷ []
+    shape = map-append name_of content (catalogue_put folder bytes ∷ hash_put folder bytes ∷ []) ∙ sym (append_assoc (map name_of content) (catalogue_path folder ∷ []) (hash_path folder ∷ []))
+
+    no_catalogue : Contains (map name_of content) (catalogue_path folder) → ⊥
+    no_catalogue here = let put = map-Contains name_of content (catalogue_path folder) here in (apart put.0 put.1).0 put.2
+
+    no_hash : Contains (map name_of content ++ catalogue_path folder ∷ []) (hash_path folder) → ⊥
+    no_hash here = by_case (Contains-append_cases (map name_of content) (catalogue_path folder ∷ []) (hash_path folder) here)
+      where
+        by_last : (catalogue_path folder ≡ hash_path folder) ⊎ Contains [] (hash_path folder) → ⊥
+        by_last (inl same) = hash-beside folder same
+        by_last (inr none) = Contains-none (hash_path folder) none
+
+        by_case : Contains (map name_of content) (hash_path folder) ⊎ Contains (catalogue_path folder ∷ []) (hash_path folder) → ⊥
+        by_case (inl here) = let put = map-Contains name_of content (hash_path folder) here in (apart put.0 put.1).1 put.2
+        by_case (inr last) = by_last (Contains-cases (catalogue_path folder) [] (hash_path folder) last)
+
 module _ (folder : List ℕ) (r : Release) (are : AreNamed r.bundles) where
   abbrev state : MemFile
   state = state_put folder r.state_bytes
@@ -177,21 +198,4 @@ module _ (folder : List ℕ) (r : Release) (are : AreNamed r.bundles) where
           (path-same folder (state_file (Some (digest_from r.state_bytes))) (side_folder made.0.remote ++ made.0.row.key) (sym (ap name_of made.2 ∙ put.2)))
 
   pub release-once : NamesOnce (puts_of folder r)
-  release-once = subst AreOnce (sym shape) (once-push (map name_of (content_puts folder r) ++ catalogue_path folder ∷ []) (hash_path folder) (once-push (map name_of (content_puts folder r)) (catalogue_path folder) content-once no_catalogue) no_hash)
-    where
-      shape : map name_of (puts_of folder r) ≡ (map name_of (content_puts folder r) ++ catalogue_path folder ∷ []) ++ hash_path folder ∷ []
-      shape = map-append name_of (content_puts folder r) (catalogue_put folder r.catalogue ∷ hash_put folder r.catalogue ∷ []) ∙ sym (append_assoc (map name_of (content_puts folder r)) (catalogue_path folder ∷ []) (hash_path folder ∷ []))
-
-      no_catalogue : Contains (map name_of (content_puts folder r)) (catalogue_path folder) → ⊥
-      no_catalogue here = let put = map-Contains name_of (content_puts folder r) (catalogue_path folder) here in (release-content put.0 put.1).0 put.2
-
-      no_hash : Contains (map name_of (content_puts folder r) ++ catalogue_path folder ∷ []) (hash_path folder) → ⊥
-      no_hash here = by_case (Contains-append_cases (map name_of (content_puts folder r)) (catalogue_path folder ∷ []) (hash_path folder) here)
-        where
-          by_last : (catalogue_path folder ≡ hash_path folder) ⊎ Contains [] (hash_path folder) → ⊥
-          by_last (inl same) = hash-beside folder same
-          by_last (inr none) = Contains-none (hash_path folder) none
-
-          by_case : Contains (map name_of (content_puts folder r)) (hash_path folder) ⊎ Contains (catalogue_path folder ∷ []) (hash_path folder) → ⊥
-          by_case (inl here) = let put = map-Contains name_of (content_puts folder r) (hash_path folder) here in (release-content put.0 put.1).1 put.2
-          by_case (inr last) = by_last (Contains-cases (catalogue_path folder) [] (hash_path folder) last)
+  release-once = with-once folder (content_puts folder r) r.catalogue content-once release-content

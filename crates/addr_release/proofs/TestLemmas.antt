@@ -108,6 +108,14 @@ bundles-free folder bundles files none put here =
     let test = side_test (0 + at.0) made.0 made.0.remote in
     subst (IsFree files) made.2 (other-free made.0.file (file_at (path folder test.name) files) (find-none (is_taken files folder) (all_bundle_tests bundles) none test (tests-here 0 bundles at.0 made.0 made.0.remote at.1)))
 
+-- and so is each side of their keys
+pub bundle-side-free : (folder : List ℕ) (bundles : List ReleaseBundle) (files : List MemFile) → first_taken files folder (all_bundle_tests bundles) ≡ None
+    → (i : ℕ) (made : ReleaseBundle) (side : Bool) → slice_get bundles i ≡ Some made
+    → (file_at (side_path folder side made.row.key) files ≡ None) ⊎ (file_at (side_path folder side made.row.key) files ≡ Some made.file)
+bundle-side-free folder bundles files none i made side at =
+    let test = side_test (0 + i) made side in
+    other-free made.file (file_at (side_path folder side made.row.key) files) (find-none (is_taken files folder) (all_bundle_tests bundles) none test (tests-here 0 bundles i made side at))
+
 module _ (folder : List ℕ) (r : Release) where
   abbrev pub last : Test
   last = state_test (length r.bundles) r.state_bytes
