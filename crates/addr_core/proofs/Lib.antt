@@ -13,6 +13,7 @@ pub mod Machines
 pub mod Nows
 pub mod Places
 pub mod Preparing
+mod ReadAllSteps
 pub mod ReadSteps
 pub mod SlotSteps
 pub mod WaitPlaces

@@ -10,6 +10,7 @@ ghost use Rattle.addr_history.specs.Legal.{Legal, IsAnswer};
 ghost use Rattle.addr_history.specs.Places.{is_fetched_by, queue};
 ghost use Rattle.addr_history.specs.Counts.{count_of, is_closed, is_unreleased, loads_of};
 ghost use Rattle.addr_history.specs.Reading.{row_reply};
+ghost use Rattle.addr_core.specs.ReadAll.{AnswersReadAll};
 ghost use Rattle.addr_core.specs.Machine.{Machine, fresh, grown, with_kept, Loads, AnswersRead, HasImages, IdleHaveNone, ImagesFit, ReadyHave};
 
 use crate::courses::{Course, course_at, fail_each, give_back, wake_each};
@@ -23,13 +24,13 @@ use crate::slots::{
 };
 use crate::start::{no_images, no_slots, no_waiters, push_within};
 use crate::waiters::{Waiters, clear_waiters, forget_each, make_room_each, wait_each, waiting};
-use crate::wanted::{Wanted, row_of, take_wanted};
+use crate::wanted::{Wanted, needs_at, row_of, take_wanted};
 use addr_base::{BundleNo, Cause, Image, Items, NoMemory, OpId, RowNo};
 use addr_history::{
-    Ask, BundleState, Event, LoadErr, Next, NoHandle, NotTaken, OpStatus, ReadErr, Settled,
+    Ask, BundleState, Event, Item2, LoadErr, Next, NoHandle, NotTaken, OpStatus, ReadErr, Settled,
 };
 use addr_locate::Locator;
-use addr_objects::read_asset;
+use addr_objects::{read_all_of_asset, read_asset};
 use addr_queue::Queue;
 use std::alloc::Global;
 use std::marker::Model;
@@ -398,6 +399,27 @@ impl<I: Image + Drop> Core<I> {
     {
         let asset = &self.locator.assets()[row.0 as usize];
         read_asset(self.alloc, self.images.as_slice(), asset)
+    }
+
+    /// The asset that an operation's i-th row is with all that it leads to among the operation's bundles: one item for each
+    /// GUID, in the order of GUIDs. An ordered look-up for each object and each reference on the way, and memory for these.
+    pub fn read_all(&self, op: OpId, i: u32) -> Result<Items<Item2>, ReadErr>
+        ensures { AnswersReadAll I.object_of self.now op i result }
+    {
+        match self.row(op, i) {
+            Ok(row) => self.read_all_of_row(op, i, row),
+            Err(refusal) => Err(refusal),
+        }
+    }
+
+    fn read_all_of_row(&self, op: OpId, i: u32, row: RowNo) -> Result<Items<Item2>, ReadErr>
+        requires { row_reply self.now.rows self.now.history op i ≡ Ok row }
+        ensures { AnswersReadAll I.object_of self.now op i result }
+    {
+        let needs = needs_at(self.wanted.as_slice(), op);
+        let bundles = self.locator.bundles();
+        let asset = &self.locator.assets()[row.0 as usize];
+        read_all_of_asset(self.alloc, self.images.as_slice(), bundles, needs, asset)
     }
 
     /// The events so far.

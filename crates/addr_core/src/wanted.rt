@@ -48,3 +48,13 @@ pub fn row_of(wanted: &[Wanted], op: OpId, i: u32) -> Option<RowNo>
         None => None,
     }
 }
+
+/// The bundles that an operation needs; none where it wasn't opened.
+pub fn needs_at(wanted: &[Wanted], op: OpId) -> &[BundleNo]
+    ensures { result.now ≡ (wanted_at wanted.now op).needs }
+{
+    match wanted.get(op.0 as usize) {
+        Some(found) => found.needs.as_slice(),
+        None => &[],
+    }
+}

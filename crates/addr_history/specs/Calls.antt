@@ -15,9 +15,11 @@ use Rattle.addr_history.specs.declared.answers.Settled.{Settled}
 use Rattle.addr_history.specs.declared.ask.Ask.{Ask}
 use Rattle.addr_history.specs.declared.error.LoadErr.{LoadErr}
 use Rattle.addr_history.specs.declared.event.Event.{Event}
+use Rattle.addr_history.specs.declared.reading.Item2.{Item2}
 use Rattle.addr_history.specs.declared.reading.ReadErr.{ReadErr}
 use Rattle.addr_history.specs.Answers.{load_reply, load_adds, release_reply, release_adds, status_reply, take_reply, take_adds, done_reply, done_adds, fail_reply, fail_adds, close_reply, close_adds, count_reply}
 use Rattle.addr_history.specs.Reading.{Reads}
+use Rattle.addr_history.specs.Unfolding.{ReadsAll}
 
 -- a call with its arguments; a `done` without its image
 pub data Call : Type 0 where
@@ -25,6 +27,7 @@ pub data Call : Type 0 where
   release : ℕ → OpId → Call
   status : OpId → Call
   read : OpId → ℕ → Call
+  read_all : OpId → ℕ → Call
   take : ℕ → Call
   done : ℕ → BundleNo → Call
   fail : ℕ → BundleNo → Cause → Call
@@ -37,6 +40,7 @@ AnswerOf (load caller ask) = Result OpId LoadErr
 AnswerOf (release caller op) = Result (Unit {0}) NoHandle
 AnswerOf (status op) = Result OpStatus NoHandle
 AnswerOf (read op i) = Result (List ℕ) ReadErr
+AnswerOf (read_all op i) = Result (List Item2) ReadErr
 AnswerOf (take worker) = Next
 AnswerOf (done worker b) = Result Settled (Unit {0})
 AnswerOf (fail worker b cause) = Result (Unit {0}) NotTaken
@@ -49,6 +53,7 @@ IsAnswered objects rows limit h (load caller ask) answer = answer ≡ load_reply
 IsAnswered objects rows limit h (release caller op) answer = answer ≡ release_reply h op
 IsAnswered objects rows limit h (status op) answer = answer ≡ status_reply rows h op
 IsAnswered objects rows limit h (read op i) answer = Reads objects rows h op i answer
+IsAnswered objects rows limit h (read_all op i) answer = ReadsAll objects rows h op i answer
 IsAnswered objects rows limit h (take worker) answer = answer ≡ take_reply rows h
 IsAnswered objects rows limit h (done worker b) answer = answer ≡ done_reply rows h worker b tt
 IsAnswered objects rows limit h (fail worker b cause) answer = answer ≡ fail_reply h worker b
@@ -61,6 +66,7 @@ added_by h (load caller ask) answer = load_adds answer caller ask
 added_by h (release caller op) answer = release_adds h caller op
 added_by h (status op) answer = []
 added_by h (read op i) answer = []
+added_by h (read_all op i) answer = []
 added_by h (take worker) answer = take_adds answer worker
 added_by h (done worker b) answer = done_adds h worker b
 added_by h (fail worker b cause) answer = fail_adds h worker b cause

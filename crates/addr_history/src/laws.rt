@@ -1,5 +1,5 @@
 // Laws about the definitions: each function has an empty body, and its clauses are the laws.
-ghost use Rattle.addr_history.specs.Laws.{LoadsAreNumbered, StaysWithinLimit, PrefixesAreLegal, EmptyIsLegal, AnswersAreLegal, ClosedForLoads, SpeakOfBundles};
+ghost use Rattle.addr_history.specs.Laws.{LoadsAreNumbered, StaysWithinLimit, PrefixesAreLegal, EmptyIsLegal, AnswersAreLegal, ClosedForLoads, SpeakOfBundles, ReadsOnce, ReadsAllOnce};
 ghost use Rattle.addr_history.specs.Worked.{Located, Shared, Fetched, Retried, Filled};
 
 /// What holds of every legal history.
@@ -11,6 +11,12 @@ pub fn legal_histories()
     ensures answers { AnswersAreLegal }
     ensures closed { ClosedForLoads }
     ensures bundles { SpeakOfBundles }
+{}
+
+/// A reading has one answer, whatever the images hold.
+pub fn one_answer()
+    ensures reads { ReadsOnce }
+    ensures reads_all { ReadsAllOnce }
 {}
 
 /// The worked examples of `specs/Worked.antt`, computed from the definitions themselves.

@@ -18,5 +18,5 @@ pub use answers::{BundleState, Next, NoHandle, NotTaken, OpStatus, Settled};
 pub use ask::Ask;
 pub use error::LoadErr;
 pub use event::Event;
-pub use laws::{legal_histories, worked_examples};
-pub use reading::{Item2, ReadErr};
+pub use laws::{legal_histories, one_answer, worked_examples};
+pub use reading::{Item2, Place, ReadErr};

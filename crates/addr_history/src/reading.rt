@@ -28,6 +28,14 @@ impl From<NoMemory> for ReadErr {
     }
 }
 
+/// Where an object is looked for: its bundle's number, and its GUID. Places stand in the order of their GUIDs, and under one
+/// GUID in that of the bundles.
+#[derive(Clone, Copy, Debug, PartialEq, Eq, PartialOrd, Ord)]
+pub struct Place {
+    pub guid: Guid,
+    pub bundle: u32,
+}
+
 /// One asset of an unfolding: its bytes, and the assets that it refers to.
 #[derive(Debug, Drop)]
 pub struct Item2 {

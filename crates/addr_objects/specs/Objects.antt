@@ -4,7 +4,11 @@ use Rattle.addr_base.specs.Images.{Object}
 use Rattle.addr_base.specs.declared.ids.BundleNo.{BundleNo}
 use Rattle.addr_base.specs.declared.memory.NoMemory.{NoMemory}
 use Rattle.addr_locate.specs.declared.rows.AssetRow.{AssetRow}
+use Rattle.addr_locate.specs.declared.rows.BundleRow.{BundleRow}
 use Rattle.addr_history.specs.Reading.{Holds}
+use Rattle.addr_history.specs.Unfolding.{IsMissedIn, IsStart, IsUnfolding}
+use Rattle.addr_history.specs.declared.reading.Item2.{Item2}
+use Rattle.addr_history.specs.declared.reading.Place.{Place}
 use Rattle.addr_history.specs.declared.reading.ReadErr.{ReadErr}
 use Rattle.addr_history.specs.declared.reading.ReadErr.TheVariants.{NoHandle, NoAsset, Pending, Failed, Absent, NoMemory as WantOfMemory}
 
@@ -33,3 +37,13 @@ ReadsAsset objects a (Err NoHandle) = ⊥
 ReadsAsset objects a (Err NoAsset) = ⊥
 ReadsAsset objects a (Err Pending) = ⊥
 ReadsAsset objects a (Err (Failed b cause)) = ⊥
+
+-- what an asset row's object leads to among some bundles; want of memory may come in place of each answer
+abbrev pub ReadsAllOfAsset : (BundleNo → List ℕ → Option Object) → List BundleRow → List BundleNo → AssetRow → Result (List Item2) ReadErr → Type 0
+ReadsAllOfAsset objects bundles needs a (Ok items) = (home : BundleNo) × (slice_get a.deps 0 ≡ Some home) × (start : Place) × IsStart a home start × IsUnfolding objects bundles needs start items
+ReadsAllOfAsset objects bundles needs a (Err (Absent b)) = (home : BundleNo) × (slice_get a.deps 0 ≡ Some home) × IsMissedIn objects bundles needs a home b
+ReadsAllOfAsset objects bundles needs a (Err WantOfMemory) = Unit {0}
+ReadsAllOfAsset objects bundles needs a (Err NoHandle) = ⊥
+ReadsAllOfAsset objects bundles needs a (Err NoAsset) = ⊥
+ReadsAllOfAsset objects bundles needs a (Err Pending) = ⊥
+ReadsAllOfAsset objects bundles needs a (Err (Failed b cause)) = ⊥

@@ -5,6 +5,12 @@
 //! Left out: which images are kept (`addr_core`). Start: `specs/Objects.antt`, then `src/reading.rt`.
 #![tactic(auto)]
 
+mod homes;
+mod items;
+mod missing;
 mod reading;
+mod searching;
+mod unfolding;
 
 pub use reading::{lent, read_asset};
+pub use unfolding::read_all_of_asset;

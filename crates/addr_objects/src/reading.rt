@@ -26,7 +26,7 @@ pub fn lent<'a, I: Image + Drop>(
 }
 
 /// The bundle that holds an asset row's object: its first dependency.
-fn home_of(asset: &AssetRow) -> BundleNo
+pub fn home_of(asset: &AssetRow) -> BundleNo
     requires { 0 < length asset.now.deps }
     ensures { slice_get asset.now.deps 0 ≡ Some result }
 {
