@@ -7,3 +7,4 @@ pub mod GraphLemmas
 pub mod OpenedLemmas
 pub mod ItemLemmas
 pub mod PlaceLemmas
+pub mod HoldLemmas
