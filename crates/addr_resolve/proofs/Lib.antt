@@ -8,3 +8,6 @@ pub mod OpenedLemmas
 pub mod ItemLemmas
 pub mod PlaceLemmas
 pub mod HoldLemmas
+pub mod FirstLemmas
+pub mod LinkLemmas
+pub mod GraphedLemmas
