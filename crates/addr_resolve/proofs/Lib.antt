@@ -7,3 +7,7 @@ pub mod GraphLemmas
 pub mod OpenedLemmas
 pub mod ItemLemmas
 pub mod PlaceLemmas
+pub mod HoldLemmas
+pub mod FirstLemmas
+pub mod LinkLemmas
+pub mod GraphedLemmas

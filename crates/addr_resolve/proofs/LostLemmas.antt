@@ -33,7 +33,7 @@ below-both h a b first second less = by_order (guid_cmp h a) refl
         let turned : guid_cmp a h ≡ Less = guid_total.antisymm a h ∙ ap ordering_reverse is in
         second (guid_total.trans a h b turned less)
 
-never-itself : (g : Guid) → guid_cmp g g ≡ Less → ⊥
+pub never-itself : (g : Guid) → guid_cmp g g ≡ Less → ⊥
 never-itself g less = let turned : Less ≡ Greater = sym less ∙ (guid_total.antisymm g g ∙ ap ordering_reverse less) in absurd (cc turned)
 
 module _ (lost : List (Option Guid)) (xs : List ℕ) (n : ℕ) where

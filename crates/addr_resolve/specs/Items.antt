@@ -7,6 +7,7 @@ use Rattle.addr_cab.specs.Lookup.{Held, object_with}
 use Rattle.addr_cab.specs.Objects.{objects_of}
 use Rattle.addr_cab.specs.declared.object.ObjectOut.{ObjectOut}
 use Rattle.addr_layout.specs.Agreement.{Place}
+use Rattle.addr_locate.specs.declared.rows.BundleRow.{BundleRow}
 use Rattle.addr_project.specs.Reach.{Item as ShownItem}
 use Rattle.addr_release.specs.Opened.{Opened, Holds}
 use Rattle.addr_resolve.specs.declared.graph.PlaceRow.{PlaceRow}
@@ -19,6 +20,10 @@ item_view i = record { guid = i.guid; bytes = i.bytes; refs = i.refs }
 -- the opened files are those that the cabs hold
 abbrev pub ShowsCabs : List Opened → List Held → Type 0
 ShowsCabs files cabs = AllZip (λ file c. file.objects ≡ objects_of c) files cabs
+
+-- the opened files have the internal names of the rows
+abbrev pub AreNamed : List Opened → List BundleRow → Type 0
+AreNamed files rows = AllZip (λ file row. file.name ≡ row.name) files rows
 
 -- no place holds two objects
 abbrev pub HoldOne : List Opened → Type 0

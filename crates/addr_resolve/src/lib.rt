@@ -10,8 +10,11 @@
 
 mod error;
 mod graph;
+mod graphing;
 mod items;
+mod leading;
 mod losing;
+mod names;
 mod opening;
 mod picking;
 mod places;
@@ -20,6 +23,7 @@ mod unfolding;
 
 pub use error::{BundleFault, OpenErr};
 pub use graph::PlaceRow;
+pub use graphing::graph_of;
 pub use items::{Item, items_of};
 pub use losing::least_lost;
 pub use opening::open_all;

@@ -3,7 +3,7 @@ ghost use Rattle.std.specs.Prelude.{◌≡◌, ◌++◌, ◌<◌, ◌^◌, lengt
 ghost use Rattle.std.specs.List.Sorted.{IsStrictlySortedBy};
 ghost use Rattle.addr_release.specs.Opened.{Opened};
 ghost use Rattle.addr_resolve.specs.Graph.{AreInOrder, ShowsPlaces};
-ghost use Rattle.addr_resolve.specs.Items.{AreHeld, ShowsCabs};
+ghost use Rattle.addr_resolve.specs.Items.{AreHeld, HoldOne, ShowsCabs};
 ghost use Rattle.addr_resolve.specs.Order.{place_cmp};
 ghost use Rattle.addr_resolve.specs.Places.{ArePlaces, row_places};
 
@@ -37,6 +37,15 @@ fn gathered(alloc: Global, cabs: &[Cab]) -> Result<Items<PlaceRow>, NoMemory>
     Ok(places)
 }
 
+/// What the objects of all bundles say. A step for each bundle, and nothing is looked at.
+fn hold_one(cabs: &[Cab])
+    ensures { (files : List Opened) → ShowsCabs files cabs.now → HoldOne files }
+{
+    for cab in cabs {
+        let _rows = cab.objects();
+    }
+}
+
 /// The places of all objects by GUID, and for each GUID by bundle. A sort, and memory for the places.
 pub fn places_of(alloc: Global, cabs: &[Cab]) -> Result<Items<PlaceRow>, NoMemory>
     requires few { length cabs.now < 2 ^ 32 }
@@ -46,7 +55,9 @@ pub fn places_of(alloc: Global, cabs: &[Cab]) -> Result<Items<PlaceRow>, NoMemor
     // So they stand in their order, and are the places at which the opened files hold something.
     ensures ordered { IfOk result AreInOrder }
     ensures shown { IfOk result (λ places. (files : List Opened) → ShowsCabs files cabs.now → ShowsPlaces files places) }
+    ensures one { (files : List Opened) → ShowsCabs files cabs.now → HoldOne files }
 {
+    hold_one(cabs);
     let places = gathered(alloc, cabs)?;
     Ok(Items::from_vec(in_order(places.into_vec())))
 }

@@ -10,7 +10,7 @@ loop-b-init c = subst (λ (ps : List PlaceRow). ArePlaces [] ps) (sym c.new-plac
 
 pub loop-b-preserved : goal.loop-b-preserved
 loop-b-preserved c =
-    let added : c.add_places.new.places ≡ c.loop-b.places ++ row_places c.loop-b.b c.index-cabs-b.result.rows = c.in_ok-add_places.ensures ∙ ap (λ rows. c.loop-b.places ++ row_places c.loop-b.b rows) c.objects.ensures in
+    let added : c.add_places.new.places ≡ c.loop-b.places ++ row_places c.loop-b.b c.index-cabs-b.result.rows = c.in_ok-add_places.ensures ∙ ap (λ rows. c.loop-b.places ++ row_places c.loop-b.b rows) c.objects.ensures.rows in
     places-more c.args.cabs.now c.loop-b.b c.index-cabs-b.result c.loop-b.places c.add_places.new.places c.loop-b-test.true c.index-cabs-b.is c.loop-b.invariant added
 
 pub returns : goal.returns
