@@ -22,6 +22,6 @@ mod waiters;
 mod wanted;
 
 pub use addr_history::{
-    Ask, BundleState, Event, LoadErr, Next, NoHandle, NotTaken, OpStatus, ReadErr, Settled,
+    Ask, BundleState, Event, Item2, LoadErr, Next, NoHandle, NotTaken, OpStatus, ReadErr, Settled,
 };
 pub use machine::Core;
