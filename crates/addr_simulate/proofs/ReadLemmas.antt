@@ -1,12 +1,12 @@
 -- A read of a machine whose images are those of a script.
-use Rattle.std.proofs.Common.{◌≡◌, ◌⊎◌, inl, inr, true, subst, ℕ, List, Option, Some, None, Result, Ok, Err, slice_get, sym, ap, ◌∙◌}
+use Rattle.std.proofs.Common.{◌≡◌, inl, inr, true, subst, ℕ, List, Option, Some, None, Result, Ok, Err, slice_get, sym, ap, ◌∙◌}
 use Rattle.addr_base.specs.Images.{Object}
 use Rattle.addr_base.specs.declared.ids.BundleNo.{BundleNo}
 use Rattle.addr_base.specs.declared.ids.OpId.{OpId}
 use Rattle.addr_locate.specs.declared.rows.AssetRow.{AssetRow}
 use Rattle.addr_history.specs.Counts.{needs_of_op}
 use Rattle.addr_history.specs.Events.{is_in}
-use Rattle.addr_history.specs.Reading.{Holds, MayRead, Reads, Spells}
+use Rattle.addr_history.specs.Reading.{Holds, MayRead, Reads}
 use Rattle.addr_history.specs.Unfolding.{IsMissedIn, IsStart, ReadsAll, bundle_no, object_at}
 use Rattle.addr_history.specs.declared.reading.Item2.{Item2}
 use Rattle.addr_history.specs.declared.reading.Place.{Place}
