@@ -127,9 +127,9 @@ fn plays_scripts_that_read(rt: HostRuntime) -> Result<(), Fail> {
             "{script}"
         );
     }
-    let named = "load 0 one first %* a\ntake 1\ndone 1 0\nread 0 0\n";
+    let named = "load 0 one first %* a\ntake 1\ndone 1 0\nread 0 0\nreadall 0 0\n";
     let files = both_files(rt.alloc(), interleavings::ROWS, named)?;
-    let replies = "op 0\nbundle 0\nkept\nabsent 0\n";
+    let replies = "op 0\nbundle 0\nkept\nabsent 0\nabsent 0\n";
     assert!(rt; ends(rt.alloc(), WORDS, files, NO_FAULT, 0, replies)?);
     Ok(())
 }

@@ -25,7 +25,7 @@ use Rattle.addr_base.specs.declared.var.Var.{Var}
 use Rattle.addr_script.specs.Commands.{asked_keys_field, kind_field, mode_word, one_or_all, set_line, spell, AreTexts, IsCommand, IsKind, IsSet}
 use Rattle.addr_script.specs.Scripts.{body_lines, IsScript, IsFirstBad, IsLimit, limit_lines}
 use Rattle.addr_script.specs.declared.command.Command.{Command}
-use Rattle.addr_script.specs.declared.command.Command.TheVariants.{Load, Release, Status, Read, Count, Close, Take, Done, Fail}
+use Rattle.addr_script.specs.declared.command.Command.TheVariants.{Load, Release, Status, Read, ReadAll, Count, Close, Take, Done, Fail}
 use Rattle.addr_script.specs.declared.script.Script.{Script}
 
 -- What begins a script
@@ -200,6 +200,7 @@ spell_own (Load caller all mode kind keys) (Load caller_2 all_2 mode_2 kind_2 ke
 spell_own (Load caller all mode kind keys) (Release caller_2 op_2) is other e = absurd (apart 348 420 refl (ap word_mark e))
 spell_own (Load caller all mode kind keys) (Status op_2) is other e = absurd (apart 348 445 refl (ap word_mark e))
 spell_own (Load caller all mode kind keys) (Read op_2 i_2) is other e = absurd (apart 348 344 refl (ap word_mark e))
+spell_own (Load caller all mode kind keys) (ReadAll op_2 i_2) is other e = absurd (apart 348 409 refl (ap word_mark e))
 spell_own (Load caller all mode kind keys) (Count b_2) is other e = absurd (apart 348 443 refl (ap word_mark e))
 spell_own (Load caller all mode kind keys) Close is other e = absurd (apart 348 419 refl (ap word_mark e))
 spell_own (Load caller all mode kind keys) (Take worker_2) is other e = absurd (apart 348 352 refl (ap word_mark e))
@@ -211,6 +212,7 @@ spell_own (Release caller op) (Release caller_2 op_2) is other e =
     cc (same.0, op_own op op_2 is.1 other.1 same.1)
 spell_own (Release caller op) (Status op_2) is other e = absurd (apart 420 445 refl (ap word_mark e))
 spell_own (Release caller op) (Read op_2 i_2) is other e = absurd (apart 420 344 refl (ap word_mark e))
+spell_own (Release caller op) (ReadAll op_2 i_2) is other e = absurd (apart 420 409 refl (ap word_mark e))
 spell_own (Release caller op) (Count b_2) is other e = absurd (apart 420 443 refl (ap word_mark e))
 spell_own (Release caller op) Close is other e = absurd (apart 420 419 refl (ap word_mark e))
 spell_own (Release caller op) (Take worker_2) is other e = absurd (apart 420 352 refl (ap word_mark e))
@@ -220,6 +222,7 @@ spell_own (Status op) (Load caller_2 all_2 mode_2 kind_2 keys_2) is other e = ab
 spell_own (Status op) (Release caller_2 op_2) is other e = absurd (apart 445 420 refl (ap word_mark e))
 spell_own (Status op) (Status op_2) is other e = ap Status (op_own op op_2 is other (append_cancel_left (codes "status ") (decimal op.0) (decimal op_2.0) e))
 spell_own (Status op) (Read op_2 i_2) is other e = absurd (apart 445 344 refl (ap word_mark e))
+spell_own (Status op) (ReadAll op_2 i_2) is other e = absurd (apart 445 409 refl (ap word_mark e))
 spell_own (Status op) (Count b_2) is other e = absurd (apart 445 443 refl (ap word_mark e))
 spell_own (Status op) Close is other e = absurd (apart 445 419 refl (ap word_mark e))
 spell_own (Status op) (Take worker_2) is other e = absurd (apart 445 352 refl (ap word_mark e))
@@ -232,15 +235,30 @@ spell_own (Read op i) (Read op_2 i_2) is other e =
     let same = number_then_own op.0 op_2.0 (decimal i) (decimal i_2) is.0 other.0 (append_cancel_left (codes "read ") (decimal op.0 ++ 32 ∷ decimal i) (decimal op_2.0 ++ 32 ∷ decimal i_2) e) in
     let ops = ap {B = OpId} (λ (n : ℕ). record { 0 = n }) same.0 in
     cc (ops, number_own i i_2 is.1 other.1 same.1)
+spell_own (Read op i) (ReadAll op_2 i_2) is other e = absurd (apart 344 409 refl (ap word_mark e))
 spell_own (Read op i) (Count b_2) is other e = absurd (apart 344 443 refl (ap word_mark e))
 spell_own (Read op i) Close is other e = absurd (apart 344 419 refl (ap word_mark e))
 spell_own (Read op i) (Take worker_2) is other e = absurd (apart 344 352 refl (ap word_mark e))
 spell_own (Read op i) (Done worker_2 b_2) is other e = absurd (apart 344 353 refl (ap word_mark e))
 spell_own (Read op i) (Fail worker_2 b_2 cause_2) is other e = absurd (apart 344 336 refl (ap word_mark e))
+spell_own (ReadAll op i) (Load caller_2 all_2 mode_2 kind_2 keys_2) is other e = absurd (apart 409 348 refl (ap word_mark e))
+spell_own (ReadAll op i) (Release caller_2 op_2) is other e = absurd (apart 409 420 refl (ap word_mark e))
+spell_own (ReadAll op i) (Status op_2) is other e = absurd (apart 409 445 refl (ap word_mark e))
+spell_own (ReadAll op i) (Read op_2 i_2) is other e = absurd (apart 409 344 refl (ap word_mark e))
+spell_own (ReadAll op i) (ReadAll op_2 i_2) is other e =
+    let same = number_then_own op.0 op_2.0 (decimal i) (decimal i_2) is.0 other.0 (append_cancel_left (codes "readall ") (decimal op.0 ++ 32 ∷ decimal i) (decimal op_2.0 ++ 32 ∷ decimal i_2) e) in
+    let ops = ap {B = OpId} (λ (n : ℕ). record { 0 = n }) same.0 in
+    cc (ops, number_own i i_2 is.1 other.1 same.1)
+spell_own (ReadAll op i) (Count b_2) is other e = absurd (apart 409 443 refl (ap word_mark e))
+spell_own (ReadAll op i) Close is other e = absurd (apart 409 419 refl (ap word_mark e))
+spell_own (ReadAll op i) (Take worker_2) is other e = absurd (apart 409 352 refl (ap word_mark e))
+spell_own (ReadAll op i) (Done worker_2 b_2) is other e = absurd (apart 409 353 refl (ap word_mark e))
+spell_own (ReadAll op i) (Fail worker_2 b_2 cause_2) is other e = absurd (apart 409 336 refl (ap word_mark e))
 spell_own (Count b) (Load caller_2 all_2 mode_2 kind_2 keys_2) is other e = absurd (apart 443 348 refl (ap word_mark e))
 spell_own (Count b) (Release caller_2 op_2) is other e = absurd (apart 443 420 refl (ap word_mark e))
 spell_own (Count b) (Status op_2) is other e = absurd (apart 443 445 refl (ap word_mark e))
 spell_own (Count b) (Read op_2 i_2) is other e = absurd (apart 443 344 refl (ap word_mark e))
+spell_own (Count b) (ReadAll op_2 i_2) is other e = absurd (apart 443 409 refl (ap word_mark e))
 spell_own (Count b) (Count b_2) is other e = ap Count (bundle_own b b_2 is other (append_cancel_left (codes "count ") (decimal b.0) (decimal b_2.0) e))
 spell_own (Count b) Close is other e = absurd (apart 443 419 refl (ap word_mark e))
 spell_own (Count b) (Take worker_2) is other e = absurd (apart 443 352 refl (ap word_mark e))
@@ -250,6 +268,7 @@ spell_own Close (Load caller_2 all_2 mode_2 kind_2 keys_2) is other e = absurd (
 spell_own Close (Release caller_2 op_2) is other e = absurd (apart 419 420 refl (ap word_mark e))
 spell_own Close (Status op_2) is other e = absurd (apart 419 445 refl (ap word_mark e))
 spell_own Close (Read op_2 i_2) is other e = absurd (apart 419 344 refl (ap word_mark e))
+spell_own Close (ReadAll op_2 i_2) is other e = absurd (apart 419 409 refl (ap word_mark e))
 spell_own Close (Count b_2) is other e = absurd (apart 419 443 refl (ap word_mark e))
 spell_own Close Close is other e = refl
 spell_own Close (Take worker_2) is other e = absurd (apart 419 352 refl (ap word_mark e))
@@ -259,6 +278,7 @@ spell_own (Take worker) (Load caller_2 all_2 mode_2 kind_2 keys_2) is other e = 
 spell_own (Take worker) (Release caller_2 op_2) is other e = absurd (apart 352 420 refl (ap word_mark e))
 spell_own (Take worker) (Status op_2) is other e = absurd (apart 352 445 refl (ap word_mark e))
 spell_own (Take worker) (Read op_2 i_2) is other e = absurd (apart 352 344 refl (ap word_mark e))
+spell_own (Take worker) (ReadAll op_2 i_2) is other e = absurd (apart 352 409 refl (ap word_mark e))
 spell_own (Take worker) (Count b_2) is other e = absurd (apart 352 443 refl (ap word_mark e))
 spell_own (Take worker) Close is other e = absurd (apart 352 419 refl (ap word_mark e))
 spell_own (Take worker) (Take worker_2) is other e = ap Take (number_own worker worker_2 is other (append_cancel_left (codes "take ") (decimal worker) (decimal worker_2) e))
@@ -268,6 +288,7 @@ spell_own (Done worker b) (Load caller_2 all_2 mode_2 kind_2 keys_2) is other e 
 spell_own (Done worker b) (Release caller_2 op_2) is other e = absurd (apart 353 420 refl (ap word_mark e))
 spell_own (Done worker b) (Status op_2) is other e = absurd (apart 353 445 refl (ap word_mark e))
 spell_own (Done worker b) (Read op_2 i_2) is other e = absurd (apart 353 344 refl (ap word_mark e))
+spell_own (Done worker b) (ReadAll op_2 i_2) is other e = absurd (apart 353 409 refl (ap word_mark e))
 spell_own (Done worker b) (Count b_2) is other e = absurd (apart 353 443 refl (ap word_mark e))
 spell_own (Done worker b) Close is other e = absurd (apart 353 419 refl (ap word_mark e))
 spell_own (Done worker b) (Take worker_2) is other e = absurd (apart 353 352 refl (ap word_mark e))
@@ -279,6 +300,7 @@ spell_own (Fail worker b cause) (Load caller_2 all_2 mode_2 kind_2 keys_2) is ot
 spell_own (Fail worker b cause) (Release caller_2 op_2) is other e = absurd (apart 336 420 refl (ap word_mark e))
 spell_own (Fail worker b cause) (Status op_2) is other e = absurd (apart 336 445 refl (ap word_mark e))
 spell_own (Fail worker b cause) (Read op_2 i_2) is other e = absurd (apart 336 344 refl (ap word_mark e))
+spell_own (Fail worker b cause) (ReadAll op_2 i_2) is other e = absurd (apart 336 409 refl (ap word_mark e))
 spell_own (Fail worker b cause) (Count b_2) is other e = absurd (apart 336 443 refl (ap word_mark e))
 spell_own (Fail worker b cause) Close is other e = absurd (apart 336 419 refl (ap word_mark e))
 spell_own (Fail worker b cause) (Take worker_2) is other e = absurd (apart 336 352 refl (ap word_mark e))

@@ -11,7 +11,7 @@ use Rattle.addr_script.specs.Scripts.{body_lines, IsScript, IsFirstBad, IsLimit,
 use Rattle.addr_script.specs.declared.error.ScriptErr.{ScriptErr}
 use Rattle.addr_script.specs.declared.error.ScriptErr.TheVariants.{Line, NoMemory}
 use Rattle.addr_script.specs.declared.command.Command.{Command}
-use Rattle.addr_script.specs.declared.command.Command.TheVariants.{Load, Release, Status, Read, Count, Close, Take, Done, Fail}
+use Rattle.addr_script.specs.declared.command.Command.TheVariants.{Load, Release, Status, Read, ReadAll, Count, Close, Take, Done, Fail}
 use Rattle.addr_script.proofs.KeyLemmas.{image_at}
 
 -- no command and no line that sets a variable is spelled as a limit, and no command as such a line
@@ -20,6 +20,7 @@ no_limit_line (Load caller all mode kind keys) n e = let same : 111 ≡ 105 = cc
 no_limit_line (Release caller op) n e = let same : 114 ≡ 108 = cc in let wrong : false ≡ true = ap (λ x. x == 108) same in false≢true wrong
 no_limit_line (Status op) n e = let same : 115 ≡ 108 = cc in let wrong : false ≡ true = ap (λ x. x == 108) same in false≢true wrong
 no_limit_line (Read op i) n e = let same : 114 ≡ 108 = cc in let wrong : false ≡ true = ap (λ x. x == 108) same in false≢true wrong
+no_limit_line (ReadAll op i) n e = let same : 114 ≡ 108 = cc in let wrong : false ≡ true = ap (λ x. x == 108) same in false≢true wrong
 no_limit_line (Count b) n e = let same : 99 ≡ 108 = cc in let wrong : false ≡ true = ap (λ x. x == 108) same in false≢true wrong
 no_limit_line Close n e = let same : 99 ≡ 108 = cc in let wrong : false ≡ true = ap (λ x. x == 108) same in false≢true wrong
 no_limit_line (Take worker) n e = let same : 116 ≡ 108 = cc in let wrong : false ≡ true = ap (λ x. x == 108) same in false≢true wrong
@@ -34,6 +35,7 @@ no_set_line (Load caller all mode kind keys) v e = let same : 108 ≡ 115 = cc i
 no_set_line (Release caller op) v e = let same : 114 ≡ 115 = cc in let wrong : false ≡ true = ap (λ x. x == 115) same in false≢true wrong
 no_set_line (Status op) v e = let same : 116 ≡ 101 = cc in let wrong : false ≡ true = ap (λ x. x == 101) same in false≢true wrong
 no_set_line (Read op i) v e = let same : 114 ≡ 115 = cc in let wrong : false ≡ true = ap (λ x. x == 115) same in false≢true wrong
+no_set_line (ReadAll op i) v e = let same : 114 ≡ 115 = cc in let wrong : false ≡ true = ap (λ x. x == 115) same in false≢true wrong
 no_set_line (Count b) v e = let same : 99 ≡ 115 = cc in let wrong : false ≡ true = ap (λ x. x == 115) same in false≢true wrong
 no_set_line Close v e = let same : 99 ≡ 115 = cc in let wrong : false ≡ true = ap (λ x. x == 115) same in false≢true wrong
 no_set_line (Take worker) v e = let same : 116 ≡ 115 = cc in let wrong : false ≡ true = ap (λ x. x == 115) same in false≢true wrong

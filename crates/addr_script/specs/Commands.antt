@@ -8,7 +8,7 @@ use Rattle.addr_locate.specs.declared.rows.Merge.{Merge}
 use Rattle.addr_locate.specs.declared.rows.Merge.TheVariants.{UseFirst, Union, Intersection}
 use Rattle.addr_script.specs.Causes.{cause_text, IsGivenCause}
 use Rattle.addr_script.specs.declared.command.Command.{Command}
-use Rattle.addr_script.specs.declared.command.Command.TheVariants.{Load, Release, Status, Read, Count, Close, Take, Done, Fail}
+use Rattle.addr_script.specs.declared.command.Command.TheVariants.{Load, Release, Status, Read, ReadAll, Count, Close, Take, Done, Fail}
 
 abbrev pub one_or_all : Bool → List ℕ
 one_or_all false = codes "one"
@@ -33,6 +33,7 @@ spell (Load caller all mode kind keys) = codes "load " ++ (decimal caller ++ 32 
 spell (Release caller op) = codes "release " ++ (decimal caller ++ 32 ∷ decimal op.0)
 spell (Status op) = codes "status " ++ decimal op.0
 spell (Read op i) = codes "read " ++ (decimal op.0 ++ 32 ∷ decimal i)
+spell (ReadAll op i) = codes "readall " ++ (decimal op.0 ++ 32 ∷ decimal i)
 spell (Count b) = codes "count " ++ decimal b.0
 spell Close = codes "close"
 spell (Take worker) = codes "take " ++ decimal worker
@@ -58,6 +59,7 @@ IsCommand (Load caller all mode kind keys) = (caller < 2 ^ 32) × IsKind kind ×
 IsCommand (Release caller op) = (caller < 2 ^ 32) × (op.0 < 2 ^ 32)
 IsCommand (Status op) = op.0 < 2 ^ 32
 IsCommand (Read op i) = (op.0 < 2 ^ 32) × (i < 2 ^ 32)
+IsCommand (ReadAll op i) = (op.0 < 2 ^ 32) × (i < 2 ^ 32)
 IsCommand (Count b) = b.0 < 2 ^ 32
 IsCommand Close = Unit {0}
 IsCommand (Take worker) = worker < 2 ^ 32

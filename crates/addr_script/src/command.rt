@@ -25,6 +25,11 @@ pub enum Command {
         op: OpId,
         i: u32,
     },
+    /// The asset that an operation's i-th row is, with all that it leads to.
+    ReadAll {
+        op: OpId,
+        i: u32,
+    },
     Count(BundleNo),
     Close,
     Take {

@@ -25,4 +25,4 @@ pub use parser::parse_command;
 pub use reply::{CauseText, Reply};
 pub use script::{Script, read_script};
 pub use set_line::parse_set;
-pub use shown::content;
+pub use shown::{content, items_text};

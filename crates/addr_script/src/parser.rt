@@ -6,7 +6,7 @@ ghost use Rattle.addr_base.specs.declared.ids.BundleNo.{BundleNo};
 ghost use Rattle.addr_base.specs.declared.ids.OpId.{OpId};
 ghost use Rattle.addr_script.specs.Causes.{cause_text, IsGivenCause};
 ghost use Rattle.addr_script.specs.Commands.{ReadsCommand, Spells};
-ghost use Rattle.addr_script.specs.declared.command.Command.TheVariants.{Release, Status, Read, Count, Close, Take, Done, Fail};
+ghost use Rattle.addr_script.specs.declared.command.Command.TheVariants.{Release, Status, Read, ReadAll, Count, Close, Take, Done, Fail};
 
 use crate::command::Command;
 use crate::loads::load;
@@ -29,12 +29,13 @@ pub fn parse_command(alloc: Global, line: &[u8]) -> Result<Option<Command>, NoMe
     }
 }
 
-/// `status`, `read`, `count` and `close`.
+/// `status`, `read`, `readall`, `count` and `close`.
 fn question(line: &[u8]) -> Option<Command>
     ensures found { IfSome result (λ command. Spells line.now command) }
     ensures close { IsNone result → Spells line.now Close → ⊥ }
     ensures status { IsNone result → (op : OpId) → Spells line.now (Status op) → ⊥ }
     ensures read { IsNone result → (op : OpId) (i : ℕ) → Spells line.now (Read op i) → ⊥ }
+    ensures read_all { IsNone result → (op : OpId) (i : ℕ) → Spells line.now (ReadAll op i) → ⊥ }
     ensures count { IsNone result → (b : BundleNo) → Spells line.now (Count b) → ⊥ }
 {
     if is_same(line, b"close") {
@@ -45,6 +46,9 @@ fn question(line: &[u8]) -> Option<Command>
     }
     if let Some((op, i)) = two_numbers_after(line, b"read ") {
         return Some(Command::Read { op: OpId(op), i });
+    }
+    if let Some((op, i)) = two_numbers_after(line, b"readall ") {
+        return Some(Command::ReadAll { op: OpId(op), i });
     }
     match number_after(line, b"count ") {
         Some(b) => Some(Command::Count(BundleNo(b))),

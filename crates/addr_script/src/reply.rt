@@ -37,6 +37,8 @@ pub enum Reply {
     NoBundle,
     /// How many bytes an asset has, and how they are shown.
     Bytes(u64, Text),
+    /// How many assets an unfolding has, and how they are shown.
+    All(u64, Text),
     NoAsset,
     /// The bundle that doesn't hold what is read.
     AbsentFrom(BundleNo),
@@ -82,6 +84,10 @@ impl fmt::Display for Reply {
             Reply::Bytes(length, content) => {
                 let shown = content.as_str();
                 write!(f, "bytes {length} {shown}")
+            }
+            Reply::All(count, items) => {
+                let shown = items.as_str();
+                write!(f, "all {count}{shown}")
             }
             Reply::NoAsset => f.write_str("no-asset"),
             Reply::AbsentFrom(b) => {

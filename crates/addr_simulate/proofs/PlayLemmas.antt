@@ -16,10 +16,10 @@ use Rattle.addr_history.specs.declared.answers.Settled.TheVariants.{Kept, Droppe
 use Rattle.addr_history.specs.declared.event.Event.{Event}
 use Rattle.addr_script.specs.Replies.{reply_text}
 use Rattle.addr_script.specs.declared.command.Command.{Command}
-use Rattle.addr_script.specs.declared.command.Command.TheVariants.{Load, Release, Status, Read, Count, Close, Take, Done, Fail}
+use Rattle.addr_script.specs.declared.command.Command.TheVariants.{Load, Release, Status, Read, ReadAll, Count, Close, Take, Done, Fail}
 use Rattle.addr_script.specs.declared.reply.Reply.{Reply}
 use Rattle.addr_script.specs.declared.reply.Reply.TheVariants.{Next}
-use Rattle.addr_simulate.specs.Reading.{IsToldRead}
+use Rattle.addr_simulate.specs.Reading.{IsToldRead, IsToldReadAll}
 use Rattle.addr_simulate.specs.SimText.{ask_of, close_answer, count_answer, done_answer, fail_answer, load_answer, release_answer, status_answer, Plays, PlaysLine, SimText}
 
 -- the image makes no difference to the reply
@@ -79,6 +79,9 @@ status_plays old new op reply left told = plays old new (Status op) reply [] (sa
 
 pub read_plays : {I : Type 0} (old new : Machine I) (op : OpId) (i : ℕ) (reply : Reply) → new ≡ old → IsToldRead old.rows old.history op i reply → Plays old (Read op i) reply new
 read_plays old new op i reply left (answer, reads, told) = plays old new (Read op i) reply [] (same old new left) (record { answers = one answer; answered = (reads, refl); told = told })
+
+pub read_all_plays : {I : Type 0} (old new : Machine I) (op : OpId) (i : ℕ) (reply : Reply) → new ≡ old → IsToldReadAll old.rows old.history op i reply → Plays old (ReadAll op i) reply new
+read_all_plays old new op i reply left (answer, reads, told) = plays old new (ReadAll op i) reply [] (same old new left) (record { answers = one answer; answered = (reads, refl); told = told })
 
 pub count_plays : {I : Type 0} (old new : Machine I) (b : BundleNo) (reply : Reply) → new ≡ old → reply ≡ count_answer (count_reply old.rows old.history b) → Plays old (Count b) reply new
 count_plays old new b reply left told = plays old new (Count b) reply [] (same old new left) (record { answers = one (count_reply old.rows old.history b); answered = (refl, refl); told = told })

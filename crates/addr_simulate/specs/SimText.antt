@@ -11,7 +11,7 @@ use Rattle.addr_locate.specs.declared.rows.Kind.{Kind}
 use Rattle.addr_locate.specs.declared.rows.Kind.TheVariants.{Any, Known, Unknown}
 use Rattle.addr_locate.specs.declared.rows.Merge.{Merge}
 use Rattle.addr_history.specs.Calls.{Call, Answers, AreAnswered}
-use Rattle.addr_history.specs.Calls.Call.{load, release, status, read, take, done, fail, close, count}
+use Rattle.addr_history.specs.Calls.Call.{load, release, status, read, read_all, take, done, fail, close, count}
 use Rattle.addr_history.specs.declared.answers.BundleState.{BundleState}
 use Rattle.addr_history.specs.declared.answers.NoHandle.{NoHandle as NoHandleErr}
 use Rattle.addr_history.specs.declared.answers.NotTaken.{NotTaken as NotTakenErr}
@@ -22,15 +22,16 @@ use Rattle.addr_history.specs.declared.ask.Ask.{Ask}
 use Rattle.addr_history.specs.declared.error.LoadErr.{LoadErr}
 use Rattle.addr_history.specs.declared.error.LoadErr.TheVariants as loading
 use Rattle.addr_history.specs.declared.event.Event.{Event}
+use Rattle.addr_history.specs.declared.reading.Item2.{Item2}
 use Rattle.addr_history.specs.declared.reading.ReadErr.{ReadErr}
 use Rattle.addr_history.specs.declared.reading.ReadErr.TheVariants as reading
 use Rattle.addr_core.specs.Machine.{Machine}
-use Rattle.addr_script.specs.Replies.{content_text, reply_text}
+use Rattle.addr_script.specs.Replies.{content_text, items_text, reply_text}
 use Rattle.addr_script.specs.declared.command.Command.{Command}
-use Rattle.addr_script.specs.declared.command.Command.TheVariants.{Load, Release, Status, Read, Count, Close, Take, Done, Fail}
+use Rattle.addr_script.specs.declared.command.Command.TheVariants.{Load, Release, Status, Read, ReadAll, Count, Close, Take, Done, Fail}
 use Rattle.addr_script.specs.declared.reply.Reply.{Reply}
 use Rattle.addr_script.specs.declared.script.Script.{Script}
-use Rattle.addr_script.specs.declared.reply.Reply.TheVariants.{Opened, NoLocation, JournalFull, Closed, Released, NoHandle, Status as StatusReply, Next, Settled, NotTaken, Noted, NowClosed, Counted, NoBundle, Bytes, NoAsset, AbsentFrom}
+use Rattle.addr_script.specs.declared.reply.Reply.TheVariants.{Opened, NoLocation, JournalFull, Closed, Released, NoHandle, Status as StatusReply, Next, Settled, NotTaken, Noted, NowClosed, Counted, NoBundle, Bytes, All, NoAsset, AbsentFrom}
 
 -- what the image holds that a script's `done` hands in: under each GUID its own 16 bytes, and no references
 abbrev pub sim_objects : BundleNo → List ℕ → Option Object
@@ -65,15 +66,23 @@ abbrev pub status_answer : Result OpStatus NoHandleErr → Reply
 status_answer (Ok found) = StatusReply found
 status_answer (Err _) = NoHandle
 
--- the reply to a read; here too want of memory is never the answer
+-- the reply where nothing is read; here too want of memory is never the answer
+abbrev pub read_refusal : ReadErr → Reply
+read_refusal reading.NoHandle = NoHandle
+read_refusal reading.NoAsset = NoAsset
+read_refusal reading.Pending = StatusReply Pending
+read_refusal (reading.Failed b cause) = StatusReply (Failed b cause)
+read_refusal (reading.Absent b) = AbsentFrom b
+read_refusal reading.NoMemory = NoAsset
+
+-- the reply to a read, and to one with all that it leads to
 abbrev pub read_answer : Result (List ℕ) ReadErr → Reply
 read_answer (Ok bytes) = Bytes (length bytes) (content_text bytes)
-read_answer (Err reading.NoHandle) = NoHandle
-read_answer (Err reading.NoAsset) = NoAsset
-read_answer (Err reading.Pending) = StatusReply Pending
-read_answer (Err (reading.Failed b cause)) = StatusReply (Failed b cause)
-read_answer (Err (reading.Absent b)) = AbsentFrom b
-read_answer (Err reading.NoMemory) = NoAsset
+read_answer (Err refusal) = read_refusal refusal
+
+abbrev pub read_all_answer : Result (List Item2) ReadErr → Reply
+read_all_answer (Ok items) = All (length items) (items_text items)
+read_all_answer (Err refusal) = read_refusal refusal
 
 abbrev pub done_answer : {I : Type 0} → Result SettledWord I → Reply
 done_answer (Ok settled) = Settled settled
@@ -97,6 +106,7 @@ calls_of rows (Load caller all mode kind keys) = load caller (ask_of rows all mo
 calls_of rows (Release caller op) = release caller op ∷ []
 calls_of rows (Status op) = status op ∷ []
 calls_of rows (Read op i) = read op i ∷ []
+calls_of rows (ReadAll op i) = read_all op i ∷ []
 calls_of rows (Count b) = count b ∷ []
 calls_of rows Close = close ∷ []
 calls_of rows (Take worker) = take worker ∷ []
@@ -109,6 +119,7 @@ reply_of rows (Load caller all mode kind keys) answers = load_answer keys answer
 reply_of rows (Release caller op) answers = release_answer answers.first
 reply_of rows (Status op) answers = status_answer answers.first
 reply_of rows (Read op i) answers = read_answer answers.first
+reply_of rows (ReadAll op i) answers = read_all_answer answers.first
 reply_of rows (Count b) answers = count_answer answers.first
 reply_of rows Close answers = close_answer answers.first
 reply_of rows (Take worker) answers = Next answers.first

@@ -10,14 +10,14 @@ ghost use Rattle.addr_script.specs.Commands.{IsCommand};
 ghost use Rattle.addr_script.specs.Scripts.{IsLimit};
 ghost use Rattle.addr_script.specs.declared.command.Command.TheVariants.{Done, Read};
 ghost use Rattle.addr_simulate.specs.SimText.{limit_of};
-ghost use Rattle.addr_simulate.specs.SimText.{ask_of, asked_kind, close_answer, count_answer, fail_answer, key_token, load_answer, read_answer, release_answer, sim_objects, status_answer, Plays, SimText};
-ghost use Rattle.addr_simulate.specs.Reading.{IsToldRead};
+ghost use Rattle.addr_simulate.specs.SimText.{ask_of, asked_kind, close_answer, count_answer, fail_answer, key_token, load_answer, read_all_answer, read_answer, read_refusal, release_answer, sim_objects, status_answer, Plays, SimText};
+ghost use Rattle.addr_simulate.specs.Reading.{IsToldRead, IsToldReadAll};
 
 use crate::sim_image::SimImage;
 use addr_base::{BundleNo, Cause, Items, KeyNo, NoMemory, OpId, Text, token};
-use addr_core::{Ask, Core, LoadErr, OpStatus, ReadErr};
+use addr_core::{Ask, Core, Item2, LoadErr, OpStatus, ReadErr};
 use addr_locate::{Kind, Locator, Merge};
-use addr_script::{Command, Reply, Script, content};
+use addr_script::{Command, Reply, Script, content, items_text};
 use std::alloc::Global;
 use std::fmt::Write;
 
@@ -71,6 +71,10 @@ fn play(alloc: Global, core: &mut Core<SimImage>, command: &Command) -> Result<R
             let reply = read(alloc, core, *op, *i)?;
             Ok(reply)
         }
+        Command::ReadAll { op, i } => {
+            let reply = read_all(alloc, core, *op, *i)?;
+            Ok(reply)
+        }
         Command::Count(b) => Ok(count(core, *b)),
         Command::Close => Ok(close(core)),
         Command::Take { worker } => Ok(Reply::Next(core.take(*worker))),
@@ -107,6 +111,15 @@ fn read(alloc: Global, core: &Core<SimImage>, op: OpId, i: u32) -> Result<Reply,
     Ok(reply)
 }
 
+/// The bytes of an asset and of all that it leads to.
+fn read_all(alloc: Global, core: &Core<SimImage>, op: OpId, i: u32) -> Result<Reply, NoMemory>
+    ensures { IfOk result (IsToldReadAll core.now.rows core.now.history op i) }
+{
+    let _journal = core.journal();
+    let reply = told_all(alloc, core.read_all(op, i))?;
+    Ok(reply)
+}
+
 /// What a read is told; want of memory ends the run.
 fn told(alloc: Global, answer: Result<Items<u8>, ReadErr>) -> Result<Reply, NoMemory>
     ensures told { IfOk result (λ reply. reply ≡ read_answer answer) }
@@ -114,13 +127,39 @@ fn told(alloc: Global, answer: Result<Items<u8>, ReadErr>) -> Result<Reply, NoMe
 {
     match answer {
         Ok(bytes) => shown(alloc, bytes.as_slice()),
-        Err(ReadErr::NoHandle) => Ok(Reply::NoHandle),
-        Err(ReadErr::NoAsset) => Ok(Reply::NoAsset),
-        Err(ReadErr::Pending) => Ok(Reply::Status(OpStatus::Pending)),
-        Err(ReadErr::Failed(b, cause)) => Ok(Reply::Status(OpStatus::Failed(b, cause))),
-        Err(ReadErr::Absent(b)) => Ok(Reply::AbsentFrom(b)),
-        Err(ReadErr::NoMemory) => Err(NoMemory),
+        Err(refusal) => refused(refusal),
     }
+}
+
+fn told_all(alloc: Global, answer: Result<Items<Item2>, ReadErr>) -> Result<Reply, NoMemory>
+    ensures told { IfOk result (λ reply. reply ≡ read_all_answer answer) }
+    ensures given { OnOk result (answer ≡ Err ReadNoMemory → ⊥) }
+{
+    match answer {
+        Ok(items) => shown_all(alloc, items.as_slice()),
+        Err(refusal) => refused(refusal),
+    }
+}
+
+fn refused(refusal: ReadErr) -> Result<Reply, NoMemory>
+    ensures told { IfOk result (λ reply. reply ≡ read_refusal refusal) }
+    ensures given { OnOk result (refusal ≡ ReadNoMemory → ⊥) }
+{
+    match refusal {
+        ReadErr::NoHandle => Ok(Reply::NoHandle),
+        ReadErr::NoAsset => Ok(Reply::NoAsset),
+        ReadErr::Pending => Ok(Reply::Status(OpStatus::Pending)),
+        ReadErr::Failed(b, cause) => Ok(Reply::Status(OpStatus::Failed(b, cause))),
+        ReadErr::Absent(b) => Ok(Reply::AbsentFrom(b)),
+        ReadErr::NoMemory => Err(NoMemory),
+    }
+}
+
+fn shown_all(alloc: Global, items: &[Item2]) -> Result<Reply, NoMemory>
+    ensures { IfOk result (λ reply. reply ≡ read_all_answer (Ok items.now)) }
+{
+    let shown = items_text(alloc, items)?;
+    Ok(Reply::All(items.len() as u64, shown))
 }
 
 fn shown(alloc: Global, bytes: &[u8]) -> Result<Reply, NoMemory>

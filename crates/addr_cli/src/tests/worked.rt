@@ -46,15 +46,16 @@ take 1
 done 1 0
 release 0 0
 read 1 0
+readall 1 0
 count 0
 release 0 1
-read 1 0
+readall 1 0
 count 0
 take 1
 close
 take 1
 ",
-        "op 0\nop 1\nbundle 0\nkept\nreleased\nbytes 16 00000000000000000000000000000001\ncount 1 resident\nreleased\nno-handle\ncount 0 absent\nidle\nclose\nend\n",
+        "op 0\nop 1\nbundle 0\nkept\nreleased\nbytes 16 00000000000000000000000000000001\nall 1 00000000000000000000000000000001:16:00000000000000000000000000000001\ncount 1 resident\nreleased\nno-handle\ncount 0 absent\nidle\nclose\nend\n",
     ),
     (
         "load 0 all first Mesh green

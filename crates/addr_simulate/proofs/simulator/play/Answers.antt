@@ -1,7 +1,7 @@
 use Rattle.std.proofs.Common.{◌∙◌, ap, refl}
 use Rattle.addr_locate.specs.Rows.{Rows}
 use Rattle.addr_simulate.specs.SimText.{ask_of}
-use Rattle.addr_simulate.proofs.PlayLemmas.{load_plays, release_plays, status_plays, read_plays, count_plays, close_plays, take_plays, fail_plays}
+use Rattle.addr_simulate.proofs.PlayLemmas.{load_plays, release_plays, status_plays, read_plays, read_all_plays, count_plays, close_plays, take_plays, fail_plays}
 use Rattle.addr_simulate.proofs.simulator.play.Goals as goal
 
 pub returns-in_ok-reply-in-Load : goal.returns-in_ok-reply-in-Load
@@ -17,6 +17,9 @@ returns-in-Status c = rw c.in-Status.is (status_plays c.args.core.now c.args.cor
 
 pub returns-in_ok-reply-in-Read : goal.returns-in_ok-reply-in-Read
 returns-in_ok-reply-in-Read c = rw c.in-Read.is (read_plays c.args.core.now c.args.core.now c.in-Read.op c.in-Read.i c.in_ok-reply-in-Read.reply refl c.in_ok-reply-in-Read.ensures)
+
+pub returns-in_ok-reply-in-ReadAll : goal.returns-in_ok-reply-in-ReadAll
+returns-in_ok-reply-in-ReadAll c = rw c.in-ReadAll.is (read_all_plays c.args.core.now c.args.core.now c.in-ReadAll.op c.in-ReadAll.i c.in_ok-reply-in-ReadAll.reply refl c.in_ok-reply-in-ReadAll.ensures)
 
 pub returns-in-Count : goal.returns-in-Count
 returns-in-Count c = rw c.in-Count.is (count_plays c.args.core.now c.args.core.now c.in-Count.b c.count.result refl c.count.ensures)

@@ -33,8 +33,8 @@ returns g c =
     let there = asset_there rows c.assets.result.now c.args.row.0 c.index-assets-row.result c.assets.ensures.rows below c.index-assets-row.is in
     let kept : wanted_at c.self.inside.wanted.items op ≡ _ = wanted_are rows c.self.inside.limit h c.self.invariant.journal.known.legal c.self.inside.wanted.items c.self.invariant.holds.are_wanted op (ready_open rows h op c.args.i c.args.row ready) in
     let needs : c.needs_at-needs.result.now ≡ needs_of_op rows h op =
-        c.needs_at-needs.ensures ∙ (ap (λ (l : List Wanted). (wanted_at l op).needs) c.as_slice.ensures.value ∙ ap (λ (w : Wanted). w.needs) kept) in
+    c.needs_at-needs.ensures ∙ (ap (λ (l : List Wanted). (wanted_at l op).needs) c.as_slice.ensures.value ∙ ap (λ (w : Wanted). w.needs) kept) in
     let images = rw c.as_slice-2.ensures.value at c.read_all_of_asset.ensures in
     let found = subst (λ (ns : List BundleNo). ReadsAllOfAsset objects rows.bundles ns c.index-assets-row.result c.read_all_of_asset.result) needs
-        (subst (λ (bs : List BundleRow). ReadsAllOfAsset objects bs c.needs_at-needs.result.now c.index-assets-row.result c.read_all_of_asset.result) c.bundles-bundles.ensures.rows images) in
+    (subst (λ (bs : List BundleRow). ReadsAllOfAsset objects bs c.needs_at-needs.result.now c.index-assets-row.result c.read_all_of_asset.result) c.bundles-bundles.ensures.rows images) in
     rw (← c.self.view_is) (all_answer objects rows h op c.args.i c.args.row c.index-assets-row.result c.read_all_of_asset.result ready there found)
