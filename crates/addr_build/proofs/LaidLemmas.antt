@@ -6,8 +6,8 @@ use Rattle.std.proofs.lemmas.Option.{slice_get_within}
 use Rattle.std.proofs.lemmas.List.Sums.{sum_by-append}
 use Rattle.std.proofs.lemmas.Slice.Eq.{bytes_eq-Decides}
 use Rattle.std.specs.Bool.{MatchBool}
-use Rattle.std.specs.List.{AllByRecursion, enumerate_from, flat_map, slice_get}
-use Rattle.addr_base.specs.Files.{Store, file_at}
+use Rattle.std.specs.List.{AllByRecursion, Contains, enumerate_from, flat_map, slice_get}
+use Rattle.addr_base.specs.Files.{SameStore, Store, file_at}
 use Rattle.addr_base.specs.declared.files.MemFile.{MemFile}
 use Rattle.addr_locate.specs.declared.rows.BundleRow.{BundleRow}
 use Rattle.addr_pack.specs.Placement.{IsPlaced}
@@ -19,7 +19,7 @@ use Rattle.addr_project.specs.Reading.{path}
 use Rattle.addr_release.specs.Built.{IsBundleOf, IsFileOf, IsRowOf, ReleaseBundle}
 use Rattle.addr_release.specs.Names.{side_path}
 use Rattle.addr_release.specs.Puts.{Test, all_bundle_tests, bundle_put, bundle_tests}
-use Rattle.addr_walks.proofs.Lists.{EachAt-none, EachAt-push}
+use Rattle.addr_walks.proofs.Lists.{Contains-here, Contains-later, EachAt-none, EachAt-push}
 use Rattle.addr_build.specs.Release.{count_owed, has_bytes}
 use Rattle.addr_build.specs.within.Building.{AreLaid, PutsOne, StopsIn}
 use Rattle.addr_build.specs.Endings.{Ends}
@@ -27,9 +27,9 @@ use Rattle.addr_build.specs.declared.error.PutErr.{PutErr}
 use Rattle.addr_build.specs.declared.error.PutErr.TheVariants.{Taken, Fault, NoMemory}
 use Rattle.addr_build.specs.declared.bundles.PutBundle.{PutBundle}
 use Rattle.addr_build.specs.declared.bundles.PutBundles.{PutBundles}
-use Rattle.addr_build.proofs.EndLemmas.{after-other, ends-then, renumber-key}
+use Rattle.addr_build.proofs.EndLemmas.{after-other, ends-then, lays-untaken, renumber-key}
 use Rattle.addr_build.proofs.KeyLemmas.{bundle-apart}
-use Rattle.addr_build.proofs.PutLemmas.{lays-none, lays-then}
+use Rattle.addr_build.proofs.PutLemmas.{lays-none, lays-then, same-then}
 use Rattle.addr_build.specs.Moments.{LaysSome}
 
 -- ---- lists
@@ -68,6 +68,20 @@ count-push files puts f owed is =
 owed-there : (files : List MemFile) (f : MemFile) (put : Bool) → MatchBool put (file_at f.name files ≡ None) (file_at f.name files ≡ Some f.bytes) → owed-at files f ≡ put
 owed-there files f true none = ap (λ o. not (has_bytes f.bytes o)) none
 owed-there files f false some = ap (λ o. not (has_bytes f.bytes o)) some ∙ ap not ((bytes_eq-Decides f.bytes f.bytes).1 refl)
+
+-- where all is there nothing is owed
+pub none-owed : (files puts : List MemFile) → ((f : MemFile) → Contains puts f → file_at f.name files ≡ Some f.bytes) → count_owed files puts ≡ 0
+none-owed files [] there = refl
+none-owed files (x ∷ xs) there =
+    let all = sum_by-append (λ put. cond (owed-at files put) 1 0) (x ∷ []) xs in
+    let one : count_owed files (x ∷ []) ≡ 0 = ap (λ b. 0 + cond b 1 0) (owed-there files x false (there x (Contains-here x xs))) in
+    let rest = none-owed files xs (λ f here. there f (Contains-later x xs f here)) in
+    all ∙ ap₂ (λ a b. a + b) one rest
+
+-- where no file was put, nothing changed
+pub still-next : (old cur new : Store) (put n : ℕ) (owed : Bool) → n ≡ cond owed 1 0 → (put ≡ 0 → SameStore old cur) → (owed ≡ false → SameStore cur new) → put + n ≡ 0 → SameStore old new
+still-next old cur new put n true is before one none = absurd (omega (arith, is, none))
+still-next old cur new put n false is before one none = same-then old cur new (before (omega (arith, none))) (one refl)
 
 module _ (p : Project) (plan : Plan) (folder : List ℕ) where
   pub laid-none : (old : Store) → AreLaid p plan folder old old [] 0
@@ -133,11 +147,11 @@ module _ (p : Project) (plan : Plan) (folder : List ℕ) where
       }
 
     pub laid-next : (b : ℕ) (one : PutBundle) → b ≡ length laid.bundles → PutsOne p plan folder b cur new (Ok one) → AreLaid p plan folder old new (rows ++ one.row ∷ []) (put + cond one.put 1 0)
-    laid-next b one number (made, is, row, ends, owed) = laid-more made (subst (λ k. IsBundleOf p plan k made) number is) one row ends owed
+    laid-next b one number (made, is, row, ends, owed, still) = laid-more made (subst (λ k. IsBundleOf p plan k made) number is) one row ends owed
 
     -- memory was refused behind these
     pub laid-memory : StopsIn p plan folder old cur NoMemory
-    laid-memory = (laid.bundles, laid.each, laid.lays.some)
+    laid-memory = (laid.bundles, laid.each, lays-untaken folder (map (bundle_put folder) laid.bundles) 0 (all_bundle_tests laid.bundles) old cur laid.lays.some laid.free)
 
     pub laid-stops : (b : ℕ) (e : PutErr) → b ≡ length laid.bundles → PutsOne p plan folder b cur new (Err e) → StopsIn p plan folder old new e
     laid-stops b e number (inl (made, is, ends)) =
@@ -147,7 +161,7 @@ module _ (p : Project) (plan : Plan) (folder : List ℕ) where
           ends-as PutBundle PutBundles folder (map (bundle_put folder) (laid.bundles ++ made ∷ [])) 0 (all_bundle_tests (laid.bundles ++ made ∷ [])) old new e (joined made here {T = PutBundle} (Err e) ends),
         )
     laid-stops b e number (inr (same, memory)) =
-        subst (StopsIn p plan folder old new) (sym memory) (laid.bundles, laid.each, stays)
+        subst (StopsIn p plan folder old new) (sym memory) (laid.bundles, laid.each, lays-untaken folder (map (bundle_put folder) laid.bundles) 0 (all_bundle_tests laid.bundles) old new stays laid.free)
       where
         stays : LaysSome (map (bundle_put folder) laid.bundles) old new
         stays = subst (λ ps. LaysSome ps old new) (append-nil (map (bundle_put folder) laid.bundles)) (lays-then (map (bundle_put folder) laid.bundles) [] old cur new laid.lays (lays-none cur new same).some)

@@ -6,3 +6,5 @@ pub mod ReleaseLemmas
 pub mod BuildLemmas
 pub mod IndexLemmas
 pub mod CatalogueLemmas
+pub mod AfterLemmas
+pub mod ServeLemmas

@@ -1,6 +1,7 @@
 -- Files that are put one after the other.
 use Rattle.std.proofs.Common.{◌≡◌, ◌≢◌, ℕ, ◌+◌, ◌≤◌, ◌<◌, Bool, true, false, List, [], ◌∷◌, ◌++◌, length, take, Option, Some, None, Result, Ok, Err, All, suc, arith, refl, sym, ap, subst, ◌∙◌, ◌⊎◌, inl, inr, reverse}
 use Rattle.std.specs.Prelude.{MatchOption, IsNone, IsSomeAnd, IfSome}
+use Rattle.std.specs.Bool.{MatchBool}
 use Rattle.std.proofs.lemmas.Bool.{false≢true}
 use Rattle.std.proofs.lemmas.List.{reverse-append, take-append-le, append_assoc, append-nil, length-append}
 use Rattle.std.proofs.Math.Seq.{take-append-add}
@@ -236,7 +237,7 @@ not-there found bytes Other (other, at, differ) kind there = differ (let e : Som
 
 -- ---- what is there isn't put again
 
-same-then : (a b c : Store) → SameStore a b → SameStore b c → SameStore a c
+pub same-then : (a b c : Store) → SameStore a b → SameStore b c → SameStore a c
 same-then a b c first second = record { files = second.files ∙ first.files; past = second.past ∙ first.past }
 
 pub again-one : (a b : Store) (P Q : List MemFile → Type 0) → IfSome a.files (λ f. P f → SameStore a b) → IfSome a.files (λ f. P f × Q f → SameStore a b)
@@ -246,3 +247,14 @@ pub again-two : (a b c : Store) (P Q : List MemFile → Type 0) → IfSome a.fil
 again-two a b c P Q one two = if-told a.files (λ f. P f × Q f → SameStore a c) (λ f is both. (
     let first = told-at a.files (λ f. P f → SameStore a b) f is one both.0 in
     same-then a b c first (told-at b.files (λ f. Q f → SameStore b c) f (first.files ∙ is) two both.1)))
+
+-- a state that is there, and a catalogue and its hash
+pub again-state : (a b c : Store) (name bytes : List ℕ) (put : Bool) (Q : List MemFile → Type 0) → IfSome a.files (λ files. MatchBool put (file_at name files ≡ None) (file_at name files ≡ Some bytes))
+    → (put ≡ false → SameStore a b) → IfSome b.files (λ files. Q files → SameStore b c) → IfSome a.files (λ files. (file_at name files ≡ Some bytes) × Q files → SameStore a c)
+again-state a b c name bytes put Q owed still two = if-told a.files (λ files. (file_at name files ≡ Some bytes) × Q files → SameStore a c) (λ files is both. (
+    let first = still (by_put put (told-at a.files _ files is owed) both.0) in
+    same-then a b c first (told-at b.files (λ f. Q f → SameStore b c) files (first.files ∙ is) two both.1)))
+  where
+    by_put : {o : Option (List ℕ)} (p : Bool) → MatchBool p (o ≡ None) (o ≡ Some bytes) → o ≡ Some bytes → p ≡ false
+    by_put true none some = absurd (cc (sym none ∙ some))
+    by_put false there some = refl

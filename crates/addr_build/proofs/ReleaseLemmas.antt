@@ -1,16 +1,20 @@
 -- Putting state, catalogue and hash behind the bundles of a release.
 use Rattle.std.proofs.Common.{◌≡◌, ℕ, suc, ◌+◌, List, [], ◌∷◌, ◌++◌, length, map, Some, Result, Ok, Err, refl, sym, ap, subst, ◌∙◌, inl, inr, arith, append_assoc}
 use Rattle.std.proofs.lemmas.List.{length-map}
-use Rattle.std.specs.List.{AllZip}
-use Rattle.addr_base.specs.Files.{Store}
+use Rattle.std.proofs.lemmas.List.Elements.{Contains-append_left, Contains-append_right, Contains-push}
+use Rattle.std.specs.Prelude.{IfSome}
+use Rattle.std.specs.List.{AllZip, Contains}
+use Rattle.addr_base.specs.Files.{SameStore, Store, file_at}
+use Rattle.addr_base.specs.Ids.{digest_of, hex_of}
 use Rattle.addr_base.specs.declared.files.MemFile.{MemFile}
 use Rattle.addr_locate.specs.declared.rows.BundleRow.{BundleRow}
 use Rattle.addr_pack.specs.Placement.{IsPlaced}
 use Rattle.addr_pack.specs.declared.bundles.Plan.{Plan}
 use Rattle.addr_project.specs.Model.{Project}
 use Rattle.addr_release.specs.Built.{IsEntryRow, IsReleaseIn, Release}
-use Rattle.addr_release.specs.Names.{digest_from, state_file}
-use Rattle.addr_release.specs.Puts.{Test, all_bundle_tests, bundle_put, catalogue_put, hash_put, puts_of, state_put, tests_of}
+use Rattle.addr_release.specs.Laws.{AreThere}
+use Rattle.addr_release.specs.Names.{catalogue_path, digest_from, hash_path, state_file, state_path}
+use Rattle.addr_release.specs.Puts.{Test, all_bundle_tests, bundle_put, catalogue_put, content_puts, hash_put, puts_of, state_put, tests_of}
 use Rattle.addr_build.specs.Release.{count_owed}
 use Rattle.addr_build.specs.within.Building.{AreLaid, PutsRelease, StopsIn}
 use Rattle.addr_build.specs.Endings.{Ends, name_tests}
@@ -19,9 +23,12 @@ use Rattle.addr_build.specs.declared.bundles.PutBundles.{PutBundles}
 use Rattle.addr_build.specs.declared.error.PutErr.{PutErr}
 use Rattle.addr_build.specs.declared.error.PutErr.TheVariants.{NoMemory}
 use Rattle.addr_build.specs.declared.release.Summary.{Summary}
-use Rattle.addr_build.proofs.EndLemmas.{ends-then, renumber-name}
+use Rattle.addr_build.proofs.EndLemmas.{ends-then, lays-untaken, renumber-name}
 use Rattle.addr_build.proofs.KeyLemmas.{state-beside}
-use Rattle.addr_build.proofs.LaidLemmas.{ends-as}
+use Rattle.addr_build.specs.Putting.{AreListed}
+use Rattle.addr_build.proofs.LaidLemmas.{ends-as, none-owed}
+use Rattle.addr_build.proofs.PutLemmas.{same-then, told-at}
+use Rattle.addr_walks.proofs.Lists.{Contains-here, Contains-later}
 
 zip-lengths : {X Y : Type 0} (R : X → Y → Type 0) (xs : List X) (ys : List Y) → AllZip R xs ys → length xs ≡ length ys
 zip-lengths R [] [] each = refl
@@ -48,7 +55,7 @@ module _ (p : Project) (plan : Plan) (folder : List ℕ) where
   module _ (placed : IsPlaced p plan) (old mid new : Store) (rows : List BundleRow) (put : ℕ) (laid : AreLaid p plan folder old mid rows put) where
     -- memory was refused behind the bundles
     pub release-memory : PutsRelease p plan folder old mid (Err NoMemory)
-    release-memory = (map (bundle_put folder) laid.bundles, all_bundle_tests laid.bundles, inl (laid.bundles, laid.each, refl, refl), laid.lays.some)
+    release-memory = (map (bundle_put folder) laid.bundles, all_bundle_tests laid.bundles, inl (laid.bundles, laid.each, refl, refl), lays-untaken folder (map (bundle_put folder) laid.bundles) 0 (all_bundle_tests laid.bundles) old mid laid.lays.some laid.free)
 
     module _ (r : Release) (bundles : r.bundles ≡ laid.bundles) where
       puts-same : map (bundle_put folder) laid.bundles ++ last-puts folder r.state_bytes r.catalogue ≡ puts_of folder r
@@ -71,11 +78,13 @@ module _ (p : Project) (plan : Plan) (folder : List ℕ) where
     -- the puts of the whole release
     pub release-put : {T : Type 0} (state catalogue s c : List ℕ) (result : Result T PutErr) → IndexOf p plan laid.bundles state catalogue → s ≡ state → c ≡ catalogue
         → Ends folder (last-puts folder s c) 0 (last-tests 0 s) mid new result
-        → (r : Release) × IsReleaseIn p plan r × (r.bundles ≡ laid.bundles) × Ends folder (puts_of folder r) 0 (tests_of r) old new result
+        → (r : Release) × IsReleaseIn p plan r × (r.bundles ≡ laid.bundles) × (s ≡ r.state_bytes) × (c ≡ r.catalogue) × Ends folder (puts_of folder r) 0 (tests_of r) old new result
     release-put state catalogue s c result (r, is, bundles, told, listed) one two ends = (
       r,
       is,
       bundles,
+      one ∙ sym told,
+      two ∙ sym listed,
       release-ends r bundles result
           (subst (λ x. Ends folder (last-puts folder x r.catalogue) 0 (last-tests 0 x) mid new result) (one ∙ sym told)
           (subst (λ x. Ends folder (last-puts folder s x) 0 (last-tests 0 s) mid new result) (two ∙ sym listed) ends)),
@@ -84,14 +93,51 @@ module _ (p : Project) (plan : Plan) (folder : List ℕ) where
     pub release-stopped : (state catalogue s c : List ℕ) (e : PutErr) → IndexOf p plan laid.bundles state catalogue → s ≡ state → c ≡ catalogue
         → Ends {T = Unit {0}} folder (last-puts folder s c) 0 (last-tests 0 s) mid new (Err e) → PutsRelease p plan folder old new (Err e)
     release-stopped state catalogue s c e index one two ends =
-        let (r, is, bundles, whole) = release-put {T = Unit {0}} state catalogue s c (Err e) index one two ends in
+        let (r, is, bundles, state_is, listed_is, whole) = release-put {T = Unit {0}} state catalogue s c (Err e) index one two ends in
         (puts_of folder r, tests_of r, inr (r, is, refl, refl), ends-as (Unit {0}) Summary folder (puts_of folder r) 0 (tests_of r) old new e whole)
+
+    -- where all of the release is there, nothing was put
+    release-still : (r : Release) → r.bundles ≡ laid.bundles → (s c : List ℕ) → (put ≡ 0 → SameStore old mid)
+        → IfSome mid.files (λ files. (file_at (state_path folder (Some (digest_from s))) files ≡ Some s) × AreListed folder c files → SameStore mid new)
+        → s ≡ r.state_bytes → c ≡ r.catalogue → (files : List MemFile) → old.files ≡ Some files → AreThere (puts_of folder r) files → SameStore old new
+    release-still r bundles s c still tell state_is listed_is files at there =
+        same-then old mid new first (told-at mid.files _ files (first.files ∙ at) tell (state, (catalogue, hash)))
+      where
+        behind : List MemFile
+        behind = catalogue_put folder r.catalogue ∷ hash_put folder r.catalogue ∷ []
+
+        made : List MemFile
+        made = map (bundle_put folder) r.bundles
+
+        within : (f : MemFile) → Contains (content_puts folder r) f → file_at f.name files ≡ Some f.bytes
+        within f here = there f (Contains-append_left (content_puts folder r) behind f here)
+
+        last : (f : MemFile) → Contains behind f → file_at f.name files ≡ Some f.bytes
+        last f here = there f (Contains-append_right (content_puts folder r) behind f here)
+
+        owed : put ≡ 0
+        owed = laid.count files at ∙ none-owed files (map (bundle_put folder) laid.bundles) (λ f here. within f (Contains-append_left made (state_put folder r.state_bytes ∷ []) f (subst (λ bs. Contains (map (bundle_put folder) bs) f) (sym bundles) here)))
+
+        first : SameStore old mid
+        first = still owed
+
+        state : file_at (state_path folder (Some (digest_from s))) files ≡ Some s
+        state = subst (λ x. file_at (state_path folder (Some (digest_from x))) files ≡ Some x) (sym state_is) (within (state_put folder r.state_bytes) (Contains-push made (state_put folder r.state_bytes)))
+
+        catalogue : file_at (catalogue_path folder) files ≡ Some c
+        catalogue = subst (λ x. file_at (catalogue_path folder) files ≡ Some x) (sym listed_is) (last (catalogue_put folder r.catalogue) (Contains-here (catalogue_put folder r.catalogue) (hash_put folder r.catalogue ∷ [])))
+
+        hash : file_at (hash_path folder) files ≡ Some (hex_of (digest_of c))
+        hash = subst (λ x. file_at (hash_path folder) files ≡ Some (hex_of (digest_of x))) (sym listed_is)
+            (last (hash_put folder r.catalogue) (Contains-later (catalogue_put folder r.catalogue) (hash_put folder r.catalogue ∷ []) (hash_put folder r.catalogue) (Contains-here (hash_put folder r.catalogue) [])))
 
     pub release-done : (state catalogue s c : List ℕ) (done : Unit {0}) (summary : Summary) → IndexOf p plan laid.bundles state catalogue → s ≡ state → c ≡ catalogue
         → Ends {T = Unit {0}} folder (last-puts folder s c) 0 (last-tests 0 s) mid new (Ok done)
-        → summary.moved ≡ 0 → summary.bundles ≡ length plan.bundles → summary.put ≡ put → summary.rows ≡ length p.entries → PutsRelease p plan folder old new (Ok summary)
-    release-done state catalogue s c done summary index one two ends moved many owed rows_many =
-        let (r, is, bundles, whole) = release-put {T = Unit {0}} state catalogue s c (Ok done) index one two ends in (
+        → summary.moved ≡ 0 → summary.bundles ≡ length plan.bundles → summary.put ≡ put → summary.rows ≡ length p.entries
+        → (put ≡ 0 → SameStore old mid) → IfSome mid.files (λ files. (file_at (state_path folder (Some (digest_from s))) files ≡ Some s) × AreListed folder c files → SameStore mid new)
+        → PutsRelease p plan folder old new (Ok summary)
+    release-done state catalogue s c done summary index one two ends moved many owed rows_many still tell =
+        let (r, is, bundles, state_is, listed_is, whole) = release-put {T = Unit {0}} state catalogue s c (Ok done) index one two ends in (
           r,
           is,
           whole,
@@ -101,4 +147,5 @@ module _ (p : Project) (plan : Plan) (folder : List ℕ) where
             put = owed ∙ laid.count files at ∙ ap (λ bs. count_owed files (map (bundle_put folder) bs)) (sym bundles);
             rows = rows_many ∙ zip-lengths (IsEntryRow p plan) p.entries r.assets is.rows.entries;
           },
+          λ files at there. release-still r bundles s c still tell state_is listed_is files at there,
         )

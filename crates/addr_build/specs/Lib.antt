@@ -1,3 +1,4 @@
+pub mod After
 pub mod Endings
 pub mod Laws
 pub mod Moments

@@ -1,5 +1,6 @@
 -- Files that are put one after the other: what each moment and the end are as.
 use Rattle.std.specs.Prelude.{ℕ, ◌≡◌, ◌≤◌, ◌<◌, ◌+◌, ◌++◌, ◌⊎◌, List, [], ◌∷◌, length, take, Some}
+use Rattle.std.specs.List.{Contains}
 use Rattle.addr_base.specs.Files.{Store}
 use Rattle.addr_base.specs.declared.files.MemFile.{MemFile}
 use Rattle.addr_release.specs.Puts.{IsAfter}
@@ -26,3 +27,10 @@ pub record LaysSome (puts : List MemFile) (old new : Store) : Type 0 where
 pub record LaysAll (puts : List MemFile) (old new : Store) : Type 0 where
   pub some : LaysSome puts old new
   pub all : (before after : List MemFile) → old.files ≡ Some before → new.files ≡ Some after → IsAfter puts before after
+
+-- no earlier moment changes, and at each moment that passed, and at the end, the files are so to those before
+pub record AtEachMoment (holds : List MemFile → List MemFile → Type 0) (old new : Store) : Type 0 where
+  pub passed : List (List MemFile)
+  pub past : new.past ≡ old.past ++ passed
+  pub each : (before files : List MemFile) → old.files ≡ Some before → Contains passed files → holds before files
+  pub last : (before : List MemFile) → old.files ≡ Some before → (after : List MemFile) × (new.files ≡ Some after) × holds before after

@@ -11,7 +11,7 @@ use Rattle.addr_project.specs.Reading.{ProjectFault, ProjectOf}
 use Rattle.addr_project.specs.declared.limit.Limit.{Limit}
 use Rattle.addr_project.specs.declared.limit.Limit.TheVariants as limit
 use Rattle.addr_release.specs.Built.{IsReleaseOf, Release}
-use Rattle.addr_release.specs.Puts.{IsAfter, NoneTaken, Test, puts_of}
+use Rattle.addr_release.specs.Puts.{AreUntaken, IsAfter, NoneTaken, Test, puts_of}
 use Rattle.addr_build.specs.Moments.{Passes}
 use Rattle.addr_build.specs.declared.error.BuildErr.{BuildErr}
 use Rattle.addr_build.specs.declared.error.BuildErr.TheVariants.{Project, TooLarge, NameTaken, DepotFault, NoMemory}
@@ -46,11 +46,12 @@ pub record IsBuilt (folder : List ℕ) (old new : List MemFile) (summary : Summa
   pub sums : Sums folder old release summary
 
 -- moments that passed in a build, and the files at its end: none passed and nothing changed, or the folder stood for a
--- project, and each is as after some first puts of its release
+-- project, and each is as after some first puts of its release, for which no name that is tested is taken
 abbrev pub IsBuilding : List ℕ → List MemFile → List (List MemFile) → List MemFile → Type 0
 IsBuilding folder old passed new = ((passed ≡ []) × (new ≡ old))
     ⊎ ((p : Contents) × ProjectOf old folder p
-    × (puts : List MemFile) × (tests : List Test) × IsBegun p folder puts tests × Passes puts old 0 passed new)
+    × (puts : List MemFile) × (tests : List Test) × IsBegun p folder puts tests
+    × (k : ℕ) × AreUntaken old folder k tests × Passes (take k puts) old 0 passed new)
 
 -- what stands at each moment of a build: no earlier moment changes, and those that passed are moments of a build
 pub record Builds (folder : List ℕ) (old new : Store) : Type 0 where

@@ -71,8 +71,8 @@ fn digits_of(alloc: Global, bytes: &[u8]) -> Result<Text, NoMemory>
     Ok(Text::from_string(digits))
 }
 
-/// Puts a catalogue, at which the release changes, and then the file that holds its digest, each only where it isn't
-/// there.
+/// Puts a catalogue, at which the release changes, and then the file that holds its digest; where both are there nothing
+/// changes.
 pub fn put_catalogue<D: Depot>(
     alloc: Global,
     depot: &mut D,
@@ -97,7 +97,7 @@ pub fn put_catalogue<D: Depot>(
     Ok(())
 }
 
-/// Puts a content state and then a catalogue with its hash.
+/// Puts a content state and then a catalogue with its hash; where all three are there nothing changes.
 pub fn put_state_and_catalogue<D: Depot>(
     alloc: Global,
     depot: &mut D,
@@ -110,6 +110,9 @@ pub fn put_state_and_catalogue<D: Depot>(
         ∷ catalogue_put folder.now catalogue.now ∷ hash_put folder.now catalogue.now ∷ []) 0
         (name_tests 0 (state_file (Some (digest_from state.now))) state.now)
         (D.now depot.old) (D.now depot.new) result }
+    ensures again { IfOk result (λ done. IfSome (D.now depot.old).files (λ files.
+        (file_at (state_path folder.now (Some (digest_from state.now))) files ≡ Some state.now)
+        × AreListed folder.now catalogue.now files → SameStore (D.now depot.old) (D.now depot.new))) }
     ensures cause { PutRose (D.now depot.old).faults (D.now depot.new).faults result }
 {
     put_state(alloc, depot, folder, state)?;

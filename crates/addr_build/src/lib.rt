@@ -1,10 +1,10 @@
-//! The full build of a project folder: bundle files, content state, catalogue and hash are put in this order, each only where
-//! it isn't there.
+//! The full build of a project folder: bundle files, content state, catalogue and hash are put in this order.
 //!
-//! Promise: `build` answers the numbers of the release that it put, or exactly the first refusal, and at each moment of the
-//! depot the files are as after some first puts of the project's release (`specs/Outcomes.antt`, `specs/Moments.antt`).
+//! Promise: `build` answers the numbers of the release that it put, or exactly the first refusal (`specs/Outcomes.antt`). After
+//! Ok each key resolves to what the project shows, and at each moment readers find the old release or the new one
+//! (`specs/After.antt`).
 //! Units: numbers of bundles and puts count from 0. Left out: what the files hold (addr_images).
-//! Start: `specs/Outcomes.antt`, then `src/builder.rt`.
+//! Start: `specs/After.antt` and `specs/Outcomes.antt`, then `src/builder.rt`.
 #![tactic(auto)]
 
 mod builder;

@@ -1,5 +1,5 @@
 -- Making and putting bundles one after the other, and then the rest of a release.
-use Rattle.std.specs.Prelude.{ℕ, ◌≡◌, ◌≤◌, ◌⊎◌, List, [], ◌∷◌, length, map, Some, None, Result, Ok, Err}
+use Rattle.std.specs.Prelude.{ℕ, ◌≡◌, ◌≤◌, ◌⊎◌, false, List, [], ◌∷◌, length, map, Some, None, Result, Ok, Err}
 use Rattle.std.specs.Bool.{MatchBool}
 use Rattle.addr_base.specs.Files.{SameStore, Store, file_at}
 use Rattle.addr_base.specs.declared.files.MemFile.{MemFile}
@@ -7,6 +7,7 @@ use Rattle.addr_locate.specs.declared.rows.BundleRow.{BundleRow}
 use Rattle.addr_pack.specs.declared.bundles.Plan.{Plan}
 use Rattle.addr_project.specs.Model.{Project}
 use Rattle.addr_release.specs.Built.{IsBundleOf, ReleaseBundle, IsReleaseIn, Release}
+use Rattle.addr_release.specs.Laws.{AreThere}
 use Rattle.addr_release.specs.Puts.{all_bundle_tests, bundle_put, bundle_tests, first_taken, Test, puts_of, tests_of}
 use Rattle.addr_walks.specs.Places.{EachAt}
 use Rattle.addr_build.specs.Moments.{LaysAll}
@@ -30,6 +31,7 @@ PutsOne p plan folder b old new (Ok one) = (made : ReleaseBundle) × IsBundleOf 
     × ((files : List MemFile) → old.files ≡ Some files
     → MatchBool one.put (file_at (bundle_put folder made).name files ≡ None)
     (file_at (bundle_put folder made).name files ≡ Some made.file))
+    × (one.put ≡ false → SameStore old new)
 PutsOne p plan folder b old new (Err e) =
     ((made : ReleaseBundle) × IsBundleOf p plan b made
     × Ends {T = PutBundle} folder (bundle_put folder made ∷ []) 0 (bundle_tests 0 made) old new (Err e))
@@ -54,6 +56,7 @@ StopsIn p plan folder old new e = (bundles : List ReleaseBundle) × EachAt (IsBu
 abbrev pub PutsBundles : Project → Plan → List ℕ → Store → Store → Result PutBundles PutErr → Type 0
 PutsBundles p plan folder old new (Ok laid) =
     AreLaid p plan folder old new laid.rows laid.put × (length laid.rows ≡ length plan.bundles) × (laid.put ≤ length laid.rows)
+    × (laid.put ≡ 0 → SameStore old new)
 PutsBundles p plan folder old new (Err e) = StopsIn p plan folder old new e
 
 -- what putting the release answers and leaves
@@ -61,5 +64,6 @@ abbrev pub PutsRelease : Project → Plan → List ℕ → Store → Store → R
 PutsRelease p plan folder old new (Ok summary) = (r : Release) × IsReleaseIn p plan r
     × Ends folder (puts_of folder r) 0 (tests_of r) old new (Ok summary)
     × ((files : List MemFile) → old.files ≡ Some files → Sums folder files r summary)
+    × ((files : List MemFile) → old.files ≡ Some files → AreThere (puts_of folder r) files → SameStore old new)
 PutsRelease p plan folder old new (Err e) = (puts : List MemFile) × (tests : List Test) × IsBegunIn p plan folder puts tests
     × Ends {T = Summary} folder puts 0 tests old new (Err e)

@@ -1,9 +1,10 @@
 use Rattle.std.proofs.Common.{arith, Bool, Ok, IfSome, [], ◌∷◌, subst, sym}
 use Rattle.addr_release.specs.Names.{side_path}
 use Rattle.addr_build.specs.Endings.{Ends, key_tests}
+use Rattle.addr_build.specs.within.FromDepot.{of_depot}
 use Rattle.addr_build.specs.within.Testing.{Tells}
 use Rattle.addr_build.specs.Putting.{file_of}
-use Rattle.addr_build.proofs.EndLemmas.{ends-refused, ends-there, err-is}
+use Rattle.addr_build.proofs.EndLemmas.{ends-refused, ends-stopped, ends-there, err-is}
 use Rattle.addr_build.proofs.bundle_puts.put_bundle.Goals as goal
 
 pub returns-in_err-is_owed_anywhere-clause-ends : goal.returns-in_err-is_owed_anywhere-clause-ends
@@ -23,3 +24,15 @@ returns-else-branch-clause-ends g c =
     let old = g.D.Depot.now c.args.depot.now in
     ends-there c.args.folder.now tests own c.args.bytes.now old (g.D.Depot.now c.is_owed_anywhere.new.depot) c.in_ok-is_owed_anywhere.ensures.same
     (subst (λ owed. IfSome old.files (λ files. Tells files c.args.folder.now tests own c.args.bytes.now (Ok owed))) c.if-branch.false c.in_ok-is_owed_anywhere.ensures.tests)
+
+pub returns-in_err-put_below-clause-ends : goal.returns-in_err-put_below-clause-ends
+returns-in_err-put_below-clause-ends g c =
+    let own = side_path c.args.folder.now c.args.remote c.args.key.now in
+    let tests = key_tests 0 c.args.key.now c.args.bytes.now in
+    let old = g.D.Depot.now c.args.depot.now in
+    let mid = g.D.Depot.now c.is_owed_anywhere.new.depot in
+    let new = g.D.Depot.now c.put_below.new.depot in
+    let cause = c.in_err-put_below.field-0.0 in
+    subst (λ r. Ends {T = Bool} c.args.folder.now (file_of own c.args.bytes.now ∷ []) 0 tests old new r) (sym (err-is c.from_residual-in_err-put_below.result (of_depot cause) c.from_residual-in_err-put_below.ensures.1))
+    (ends-stopped Bool c.args.folder.now tests own c.args.bytes.now old mid new cause c.in_ok-is_owed_anywhere.ensures.same
+    (subst (λ owed. IfSome old.files (λ files. Tells files c.args.folder.now tests own c.args.bytes.now (Ok owed))) c.if-branch.true c.in_ok-is_owed_anywhere.ensures.tests) c.in_err-put_below.ensures.puts)

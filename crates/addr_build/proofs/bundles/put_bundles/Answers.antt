@@ -2,7 +2,7 @@ use Rattle.std.proofs.Common.{◌≡◌, ◌∙◌, ◌+◌, [], ◌∷◌, ◌+
 use Rattle.addr_build.specs.within.Building.{AreLaid, PutsBundles}
 use Rattle.addr_build.specs.declared.error.PutErr.TheVariants.{NoMemory}
 use Rattle.addr_build.proofs.EndLemmas.{err-is}
-use Rattle.addr_build.proofs.LaidLemmas.{laid-none, laid-next, laid-memory, laid-stops, count-few, many}
+use Rattle.addr_build.proofs.LaidLemmas.{laid-none, laid-next, laid-memory, laid-stops, count-few, many, still-next}
 use Rattle.addr_build.proofs.bundles.put_bundles.Goals as goal
 
 pub loop-b-init : goal.loop-b-init
@@ -12,6 +12,7 @@ loop-b-init g c =
       laid = subst (λ rows. AreLaid c.args.project.now c.args.plan.now c.args.folder.now old old rows 0) (sym c.new-rows.ensures) (laid-none c.args.project.now c.args.plan.now c.args.folder.now old);
       as_many = ap length c.new-rows.ensures;
       few = omega arith;
+      still = λ none. record { files = refl; past = refl };
       faults = refl;
     }
 
@@ -61,6 +62,7 @@ loop-b-preserved g c =
           (subst (λ rows. AreLaid p plan folder old new rows (c.loop-b.put + cond c.in_ok-one.one.put 1 0)) (sym c.in_ok-push.ensures.ok) next);
       as_many = ap length c.in_ok-push.ensures.ok ∙ (let e : length (c.loop-b.rows ++ c.in_ok-one.one.row ∷ []) ≡ c.loop-b.b + 1 = omega (arith, longer, before) in e);
       few = count-few c.loop-b.put c.count_of-put.result c.loop-b.b c.in_ok-one.one.put c.loop-b.invariant.few c.count_of-put.ensures;
+      still = still-next old cur new c.loop-b.put c.count_of-put.result c.in_ok-one.one.put c.count_of-put.ensures c.loop-b.invariant.still c.in_ok-one.ensures.puts.5;
       faults = c.in_ok-one.ensures.cause ∙ c.loop-b.invariant.faults;
     }
 
@@ -71,4 +73,4 @@ returns g c =
     let ended = c.loop-b-test.false in
     let within = c.loop-b.auto.b-end in
     let all = c.len-b-end.ensures in
-    record { puts = (c.loop-b.invariant.laid, omega (arith, here, ended, within, all), omega (arith, here, few)); cause = c.loop-b.invariant.faults }
+    record { puts = (c.loop-b.invariant.laid, omega (arith, here, ended, within, all), omega (arith, here, few), c.loop-b.invariant.still); cause = c.loop-b.invariant.faults }

@@ -25,7 +25,7 @@ returns-in_err-put_state_and_catalogue-clause-puts g c =
     let old = g.D.Depot.now c.args.depot.now in
     let mid = g.D.Depot.now c.put_bundles.new.depot in
     let new = g.D.Depot.now c.put_state_and_catalogue.new.depot in
-    let (laid, length_is, few) = c.in_ok-laid.ensures.puts in
+    let (laid, length_is, few, still) = c.in_ok-laid.ensures.puts in
     let rows = c.in_ok-laid.laid.rows in
     let put = c.in_ok-laid.laid.put in
     let number = sym (many p plan folder c.requires.placed old mid mid rows put laid) ∙ length_is in
@@ -42,15 +42,15 @@ returns-clause-puts g c =
     let old = g.D.Depot.now c.args.depot.now in
     let mid = g.D.Depot.now c.put_bundles.new.depot in
     let new = g.D.Depot.now c.put_state_and_catalogue.new.depot in
-    let (laid, length_is, few) = c.in_ok-laid.ensures.puts in
+    let (laid, length_is, few, still) = c.in_ok-laid.ensures.puts in
     let rows = c.in_ok-laid.laid.rows in
     let put = c.in_ok-laid.laid.put in
     let number = sym (many p plan folder c.requires.placed old mid mid rows put laid) ∙ length_is in
     let index = c.in_ok-index.ensures laid.bundles laid.each number laid.told in
     release-done p plan folder c.requires.placed old mid new rows put laid c.in_ok-index.index.state c.in_ok-index.index.catalogue c.as_slice.result.now c.as_slice-2.result.now _ _ index c.as_slice.ensures c.as_slice-2.ensures
-    c.in_ok-put_state_and_catalogue.ensures.ends refl c.len.ensures refl (ap length c.entries.ensures)
+    c.in_ok-put_state_and_catalogue.ensures.ends refl c.len.ensures refl (ap length c.entries.ensures) still c.in_ok-put_state_and_catalogue.ensures.again
 
 pub index_of-requires-clause-rows : goal.index_of-requires-clause-rows
 index_of-requires-clause-rows g c =
-    let (laid, length_is, few) = c.in_ok-laid.ensures.puts in
+    let (laid, length_is, few, still) = c.in_ok-laid.ensures.puts in
     laid-rows c.args.project.now c.args.plan.now c.args.folder.now (g.D.Depot.now c.args.depot.now) (g.D.Depot.now c.put_bundles.new.depot) c.in_ok-laid.laid.rows c.in_ok-laid.laid.put laid length_is
