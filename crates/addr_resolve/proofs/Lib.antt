@@ -11,3 +11,7 @@ pub mod HoldLemmas
 pub mod FirstLemmas
 pub mod LinkLemmas
 pub mod GraphedLemmas
+pub mod KeyLemmas
+pub mod RowLemmas
+pub mod ResolveLemmas
+pub mod OnceLemmas

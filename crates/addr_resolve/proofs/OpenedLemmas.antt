@@ -1,5 +1,5 @@
 -- The first bundle that isn't opened, behind those that were.
-use Rattle.std.proofs.Common.{◌≡◌, ◌<◌, ℕ, List, length, get_or, take, Some, ap, subst, sym, ◌∙◌}
+use Rattle.std.proofs.Common.{◌≡◌, ◌<◌, ◌+◌, ◌++◌, ℕ, List, [], ◌∷◌, length, get_or, take, Some, ap, subst, sym, refl, ◌∙◌, arith}
 use Rattle.std.proofs.lemmas.Option.{slice_get-get_or}
 use Rattle.std.specs.List.{AllZip}
 use Rattle.std.specs.Prelude.{IfErr, IsErrAnd, Result, Ok, Err}
@@ -28,3 +28,7 @@ first-refused files folder rows helds k row (Bad key why) within read sofar bad 
 }
 first-refused files folder rows helds k row DepotFault within read sofar bad = tt
 first-refused files folder rows helds k row NoMemory within read sofar bad = tt
+
+pub length-snoc : {X : Type 0} (xs : List X) (x : X) → length (xs ++ x ∷ []) ≡ length xs + 1
+length-snoc [] x = refl
+length-snoc (y ∷ ys) x = let rest = length-snoc ys x in omega (arith, rest)

@@ -10,7 +10,7 @@ use Rattle.addr_cab.specs.declared.error.CabErr.{CabErr}
 use Rattle.addr_cab.specs.declared.error.CabErr.TheVariants.{Nodes}
 use Rattle.addr_locate.specs.declared.rows.BundleRow.{BundleRow}
 use Rattle.addr_resolve.specs.declared.error.BundleFault.{BundleFault}
-use Rattle.addr_resolve.specs.declared.error.BundleFault.TheVariants.{Missing, Fs, Cab}
+use Rattle.addr_resolve.specs.declared.error.BundleFault.TheVariants.{Missing, Fs, Cab, Lost}
 use Rattle.addr_resolve.specs.declared.error.OpenErr.{OpenErr}
 use Rattle.addr_resolve.specs.declared.error.OpenErr.TheVariants.{Bad, DepotFault, NoMemory}
 use Rattle.addr_unityfs.specs.Faults.{bundle_read}
@@ -35,6 +35,7 @@ IsBadTable file e = (b : Bundle) × (bundle_read file ≡ Ok b) × (((e ≡ Node
 abbrev pub IsBad : List MemFile → List ℕ → BundleRow → BundleFault → Type 0
 IsBad files folder row Missing = bundle_file files folder row.key ≡ None
 IsBad files folder row (Fs e) = (file : List ℕ) × (bundle_file files folder row.key ≡ Some file) × (bundle_read file ≡ Err e)
+IsBad files folder row (Lost guid) = ⊥
 IsBad files folder row (Cab e) = (file : List ℕ) × (bundle_file files folder row.key ≡ Some file) × IsBadTable file e
 
 -- what a file is read as
@@ -43,6 +44,7 @@ Opens file (Ok held) = (name : Digest) × HoldsCab file name (objects_of held)
 Opens file (Err Missing) = ⊥
 Opens file (Err (Fs e)) = bundle_read file ≡ Err e
 Opens file (Err (Cab e)) = IsBadTable file e
+Opens file (Err (Lost guid)) = ⊥
 
 -- what opening the bundle of a row answers
 abbrev pub OpensRow : List MemFile → List ℕ → BundleRow → Result Held BundleFault → Type 0

@@ -12,6 +12,7 @@ mod error;
 mod graph;
 mod graphing;
 mod items;
+mod laws;
 mod leading;
 mod losing;
 mod names;
@@ -19,17 +20,22 @@ mod opening;
 mod picking;
 mod places;
 mod placing;
+mod resolving;
+mod rows;
 mod unfolding;
 
-pub use error::{BundleFault, OpenErr};
+pub use error::{BundleFault, OpenErr, ResolveErr};
 pub use graph::PlaceRow;
 pub use graphing::graph_of;
 pub use items::{Item, items_of};
+pub use laws::resolve_is_one;
 pub use losing::least_lost;
 pub use opening::open_all;
 pub use picking::picks_of;
 pub use places::places_of;
 pub use placing::{in_order, number_of};
+pub use resolving::resolve;
+pub use rows::Resolved;
 pub use unfolding::{Graph, Stop, unfold};
 
 #[cfg(test)]

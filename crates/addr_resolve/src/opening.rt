@@ -1,5 +1,5 @@
 // The bundles of a catalogue: the file of each, among the local ones or else among the remote ones, with its objects.
-ghost use Rattle.std.specs.Prelude.{◌≡◌, ◌++◌, ◌∷◌, [], IfErr, IfOk, IfSome, OnOk};
+ghost use Rattle.std.specs.Prelude.{◌≡◌, ◌++◌, ◌∷◌, [], length, IfErr, IfOk, IfSome, OnOk};
 ghost use Rattle.std.specs.List.{AllZip};
 ghost use Rattle.std.specs.Option.{option_map};
 ghost use Rattle.addr_base.specs.Files.{FaultRose, SameStore, file_at};
@@ -15,7 +15,7 @@ use addr_unityfs::{FsErr, read_bundle};
 use std::alloc::Global;
 
 /// The depot's name of a file on a side.
-fn path_of(alloc: Global, folder: &str, side: &str, key: &str) -> Result<Text, NoMemory>
+pub(crate) fn path_of(alloc: Global, folder: &str, side: &str, key: &str) -> Result<Text, NoMemory>
     ensures { IfOk result (λ text. text ≡ path folder.now (side.now ++ key.now)) }
 {
     let mut text = String::from_str(alloc, folder)?;
@@ -144,6 +144,7 @@ pub fn open_all<D: Depot>(
     // What the files of all rows hold, row by row.
     ensures opened { IfSome (D.now depot.old).files
         (λ files. IfOk result (λ cabs. AllZip (IsOpenedAs files folder.now) rows.now cabs.items)) }
+    ensures many { IfOk result (λ cabs. length cabs.items ≡ length rows.now) }
     // The first row whose file is missing or can't be read, and why.
     ensures refused { IfSome (D.now depot.old).files (λ files. IfErr result (IsRefused files folder.now rows.now)) }
     ensures same { SameStore (D.now depot.old) (D.now depot.new) }

@@ -1,9 +1,9 @@
-use Rattle.std.proofs.Common.{◌+◌, take, subst, sym, ◌∙◌}
+use Rattle.std.proofs.Common.{◌+◌, ap, length, take, subst, sym, ◌∙◌}
 use Rattle.std.specs.List.{AllZip}
 use Rattle.addr_project.proofs.LoadLemmas.{if-some, if-some-at}
 use Rattle.addr_walks.proofs.Zips.{zip-more}
 use Rattle.addr_resolve.specs.Opening.{IsOpenedAs, IsRefused}
-use Rattle.addr_resolve.proofs.OpenedLemmas.{first-refused, refused-as}
+use Rattle.addr_resolve.proofs.OpenedLemmas.{first-refused, length-snoc, refused-as}
 use Rattle.addr_resolve.proofs.opening.open_all.Goals as goal
 
 pub returns-in_err-cab-clause-refused : goal.returns-in_err-cab-clause-refused
@@ -15,6 +15,7 @@ returns-in_err-cab-clause-refused g c = if-some (g.D.Depot.now c.args.depot.now)
 
 pub loop-row-preserved : goal.loop-row-preserved
 loop-row-preserved g c = record {
+  many = ap length c.in_ok-push.ensures ∙ (length-snoc c.loop-row.cabs.items c.in_ok-cab.cab ∙ ap (λ n. n + 1) c.loop-row.invariant.many);
   same = record {
     files = c.in_ok-cab.ensures.same.files ∙ c.loop-row.invariant.same.files;
     past = c.in_ok-cab.ensures.same.past ∙ c.loop-row.invariant.same.past;
