@@ -52,7 +52,8 @@ pub record IsRowOfOld (old : StateBundle) (row : BundleRow) : Type 0 where
   pub name : row.name ≡ hex_of (digest_of old.name)
 
 -- a kept bundle: with the file that the state names, and the row that it gives
-pub record IsKeptBundle (u : Update) (plan : Plan) (files : List MemFile) (folder : List ℕ) (b : ℕ) (made : ReleaseBundle) : Type 0 where
+pub record IsKeptBundle (u : Update) (plan : Plan) (files : List MemFile) (folder : List ℕ) (b : ℕ)
+    (made : ReleaseBundle) : Type 0 where
   pub number : ℕ
   pub is : IsOldAt u plan b number
   pub side : is.old.file ≡ side_file made.remote is.old.name is.old.digest
@@ -97,7 +98,8 @@ NeedsAfter u plan = NeedsWith (NeedsKept u plan) u.project plan
 -- ---- the release
 
 -- the release of an update in its placement, over the files before it; its catalogue names the state that the present one names
-pub record IsReleaseAfter (u : Update) (plan : Plan) (old : List MemFile) (folder : List ℕ) (named : Option Digest) (r : UpdatedRelease) : Type 0 where
+pub record IsReleaseAfter (u : Update) (plan : Plan) (old : List MemFile) (folder : List ℕ) (named : Option Digest)
+    (r : UpdatedRelease) : Type 0 where
   pub rows : AreRowsAs u.project plan (IsBundleAfter u plan old folder) (NeedsAfter u plan) r.bundles r.assets
   pub listed : r.catalogue ≡ catalogue_text (catalogue_of r.bundles r.assets named)
   pub alike : ReadsAlike r.catalogue (catalogue_of r.bundles r.assets named)

@@ -19,7 +19,8 @@ use Rattle.addr_update.specs.Moved.{Update, IsIn, IsKeptNo, moved_name}
 
 -- no bundle of a placement has the internal name of the bundle of moved entries
 abbrev pub NoneMoved : Plan → Type 0
-NoneMoved plan = (b : ℕ) (bundle : PlanBundle) → slice_get plan.bundles b ≡ Some bundle → digest_of bundle.name ≢ digest_of moved_name
+NoneMoved plan = (b : ℕ) (bundle : PlanBundle)
+    → slice_get plan.bundles b ≡ Some bundle → digest_of bundle.name ≢ digest_of moved_name
 
 -- what an update compares right after a build: the folder's state, intact, its catalogue, and the project that was built
 pub record IsFresh (p : Project) (plan : Plan) (files : List MemFile) (folder : List ℕ) (u : Update) : Type 0 where

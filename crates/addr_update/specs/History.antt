@@ -42,7 +42,8 @@ pub record IsShipped (folder : List ℕ) (m : Moment) : Type 0 where
 
 -- an edit changes any files but those of the release
 pub record IsEdit (folder : List ℕ) (m n : Moment) : Type 0 where
-  pub sides : (remote : Bool) (key : List ℕ) → file_at (side_path folder remote key) n.files ≡ file_at (side_path folder remote key) m.files
+  pub sides : (remote : Bool) (key : List ℕ)
+      → file_at (side_path folder remote key) n.files ≡ file_at (side_path folder remote key) m.files
   pub states : (named : Option Digest) → file_at (state_path folder named) n.files ≡ file_at (state_path folder named) m.files
   pub project : n.project ≡ m.project
   pub state : n.state ≡ m.state
@@ -83,6 +84,8 @@ IsStep folder m n = IsEdit folder m n ⊎ (IsBuild folder m n ⊎ IsUpdate folde
 -- there; and an update then leaves each key resolving to what a fresh build gives
 pub record UpdatesShow : Type 0 where
   pub builds : (folder : List ℕ) (before first : Moment) → IsBuild folder before first → IsShipped folder first
-  pub stays : (folder : List ℕ) (first last : Moment) → IsShipped folder first → Leads (IsStep folder) first last → IsShipped folder last
-  pub as_built : (folder : List ℕ) (last after fresh : Moment) → IsShipped folder last → IsUpdate folder last after → IsBuild folder last fresh
+  pub stays : (folder : List ℕ) (first last : Moment) → IsShipped folder first
+      → Leads (IsStep folder) first last → IsShipped folder last
+  pub as_built : (folder : List ℕ) (last after fresh : Moment) → IsShipped folder last
+      → IsUpdate folder last after → IsBuild folder last fresh
       → (key : List ℕ) (shown : List Row) → Resolve after.files folder key shown ↔ Resolve fresh.files folder key shown

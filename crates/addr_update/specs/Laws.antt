@@ -69,7 +69,8 @@ PlansShare p = (now plan : Plan) (kept : List KeptBundle) (moved : List ℕ) →
 -- ---- the release
 
 -- an update of a folder: from an intact state to the release in the update's placement, of which no name is taken
-pub record IsUpdateOf (u : Update) (old : List MemFile) (folder : List ℕ) (named : Option Digest) (r : UpdatedRelease) : Type 0 where
+pub record IsUpdateOf (u : Update) (old : List MemFile) (folder : List ℕ) (named : Option Digest)
+    (r : UpdatedRelease) : Type 0 where
   pub sound : IsSound u.state
   pub intact : AreIntact u.state old folder u.was
   pub placed : IsPlaced u.project u.now
@@ -91,8 +92,10 @@ pub record LeavesShown (u : Update) (old new : List MemFile) (folder : List ℕ)
 
 -- so it does after all its puts
 abbrev pub UpdateShows : Project → Type 0
-UpdateShows p = (u : Update) → u.project ≡ p → (old new : List MemFile) (folder : List ℕ) (named : Option Digest) (r : UpdatedRelease)
-    → (of : IsUpdateOf u old folder named r) → IsAfter (update_puts folder r) old new → NamesApart of.plan → LeavesShown u old new folder
+UpdateShows p = (u : Update) → u.project ≡ p
+    → (old new : List MemFile) (folder : List ℕ) (named : Option Digest) (r : UpdatedRelease)
+    → (of : IsUpdateOf u old folder named r) → IsAfter (update_puts folder r) old new → NamesApart of.plan
+    → LeavesShown u old new folder
 
 -- each key that resolved resolves the same, with the same catalogue
 pub record ResolvesAsBefore (folder : List ℕ) (old now : List MemFile) : Type 0 where
@@ -101,10 +104,12 @@ pub record ResolvesAsBefore (folder : List ℕ) (old now : List MemFile) : Type 
 
 -- after some first puts: up to the catalogue's own each key resolves as before, and from there on to what the project shows
 abbrev pub UpdateAlong : Project → Type 0
-UpdateAlong p = (u : Update) → u.project ≡ p → (old now : List MemFile) (folder : List ℕ) (named : Option Digest) (r : UpdatedRelease)
+UpdateAlong p = (u : Update) → u.project ≡ p
+    → (old now : List MemFile) (folder : List ℕ) (named : Option Digest) (r : UpdatedRelease)
     → (of : IsUpdateOf u old folder named r) → (k : ℕ) → IsAfter (take k (update_puts folder r)) old now
     → (k ≤ length r.bundles → ResolvesAsBefore folder old now)
-    × (length r.bundles < k → (file_at (catalogue_path folder) now ≡ Some r.catalogue) × (NamesApart of.plan → LeavesShown u old now folder))
+    × (length r.bundles < k → (file_at (catalogue_path folder) now ≡ Some r.catalogue)
+        × (NamesApart of.plan → LeavesShown u old now folder))
 
 -- in the catalogue that is then read, rows of kept entries have their old bundle, those of moved entries the bundle of these
 abbrev pub RowsTell : Project → Type 0

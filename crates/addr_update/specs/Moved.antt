@@ -44,7 +44,8 @@ moved_name = codes "Content~20Update_assets_all"
 
 -- the entry of an asset has a number in the project and stands in a group
 abbrev pub IsIn : Project → ℕ → Guid → Group → Type 0
-IsIn p x a g = (e : Entry) × (slice_get p.entries x ≡ Some e) × IsNumbered p e.asset a × (slice_get p.groups e.group ≡ Some g)
+IsIn p x a g = (e : Entry) × (slice_get p.entries x ≡ Some e) × IsNumbered p e.asset a
+    × (slice_get p.groups e.group ≡ Some g)
 
 -- the group with a number isn't fixed
 abbrev pub IsUnfixed : Project → ℕ → Type 0
@@ -54,12 +55,13 @@ IsUnfixed p n = (g : Group) × (slice_get p.groups n ≡ Some g) × (g.fixed ≡
 
 -- a bundle of the state stays: its group is fixed in the state and in the project
 abbrev pub Stays : Update → ℕ → StateBundle → Type 0
-Stays u m old = (slice_get u.state.bundles m ≡ Some old) × Contains u.state.fixed old.group × IsFixedName u.project old.group
+Stays u m old = (slice_get u.state.bundles m ≡ Some old) × Contains u.state.fixed old.group
+    × IsFixedName u.project old.group
 
 -- a bundle of the state has the entry, and its group is fixed in the state and is the entry's present one
 abbrev pub HasOld : Update → Guid → ℕ → Type 0
-HasOld u a m = (old : StateBundle) × (slice_get u.state.bundles m ≡ Some old) × Contains old.entries a × Contains u.state.fixed old.group
-    × (x : ℕ) × (g : Group) × IsIn u.project x a g × (g.name ≡ old.group)
+HasOld u a m = (old : StateBundle) × (slice_get u.state.bundles m ≡ Some old) × Contains old.entries a
+    × Contains u.state.fixed old.group × (x : ℕ) × (g : Group) × IsIn u.project x a g × (g.name ≡ old.group)
 
 -- the old bundle of an entry: the first such bundle
 abbrev pub IsOld : Update → Guid → ℕ → Type 0

@@ -61,6 +61,7 @@ pub record CanMove (p : Project) (kept : List KeptBundle) (moved : List ℕ) : T
   pub each : (x : ℕ) (a : Guid) (g : Group) → IsIn p x a g → g.fixed ≡ true
       → Contains moved x ⊎ ((k : KeptBundle) × Contains kept k × Contains k.entries x)
   pub moves : (x : ℕ) → Contains moved x → (a : Guid) × (g : Group) × IsIn p x a g × (g.fixed ≡ true)
-  pub keeps : (k : KeptBundle) (x : ℕ) → Contains kept k → Contains k.entries x → (a : Guid) × (g : Group) × IsIn p x a g × (g.fixed ≡ true)
+  pub keeps : (k : KeptBundle) (x : ℕ) → Contains kept k → Contains k.entries x
+      → (a : Guid) × (g : Group) × IsIn p x a g × (g.fixed ≡ true)
   pub apart : (k : KeptBundle) (x : ℕ) → Contains kept k → Contains k.entries x → Contains moved x → ⊥
   pub one : (j k : KeptBundle) (x : ℕ) → Contains kept j → Contains kept k → Contains j.entries x → Contains k.entries x → j ≡ k

@@ -19,7 +19,8 @@ pub record HasFirst (r : Rows) (a : AssetRow) (row : BundleRow) : Type 0 where
 
 -- the row of a kept entry: its first dependency is its old bundle, as the state has it
 abbrev pub IsKeptRow : State → Rows → ℕ → AssetRow → Type 0
-IsKeptRow s r m a = (old : StateBundle) × (slice_get s.bundles m ≡ Some old) × (row : BundleRow) × HasFirst r a row × IsRowOfOld old row
+IsKeptRow s r m a = (old : StateBundle) × (slice_get s.bundles m ≡ Some old)
+    × (row : BundleRow) × HasFirst r a row × IsRowOfOld old row
 
 -- that of a moved entry: it is the bundle of moved entries
 abbrev pub IsMovedRow : Rows → AssetRow → Type 0
