@@ -1,0 +1,17 @@
+pub mod DecidedLemmas
+pub mod SplitLemmas
+pub mod WaysLemmas
+pub mod ReasonLemmas
+pub mod SharedLemmas
+pub mod OneLemmas
+pub mod UpdatedLemmas
+pub mod PutLemmas
+pub mod ShowsLemmas
+pub mod AlongLemmas
+pub mod RowLemmas
+pub mod CleanLemmas
+pub mod FreshLemmas
+pub mod HistoryLemmas
+pub mod DoubtfulLemmas
+pub mod TurnLemmas
+pub mod LeadingLemmas

@@ -1,0 +1,12 @@
+pub mod Moved
+pub mod Intact
+pub mod Placement
+pub mod After
+pub mod Rows
+pub mod Clean
+pub mod Laws
+pub mod Fresh
+pub mod History
+pub mod Leading
+pub mod Doubtful
+pub mod within

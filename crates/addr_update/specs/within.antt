@@ -1,0 +1,3 @@
+-- What the proofs stand on, and no clause of a public call reaches.
+pub mod Kept
+pub mod Turned
