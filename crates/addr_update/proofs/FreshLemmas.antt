@@ -39,8 +39,9 @@ use Rattle.addr_release.specs.Built.{IsBundleOf, IsReleaseIn, IsStateBundleOf, R
 use Rattle.addr_release.specs.Images.{AreObjects, IsImageOf, IsRefTo, NamesApart, TellsBundle}
 use Rattle.addr_release.specs.Names.{digest_from, side_path}
 use Rattle.addr_release.specs.Opened.{Opened, Holds, LeadsTo}
+use Rattle.addr_release.specs.Laws.{AreThere}
 use Rattle.addr_release.specs.Puts.{IsAfter, NoneTaken, puts_of}
-use Rattle.addr_release.proofs.BuiltLemmas.{built-carries, bundle-there, held-as, holds-just}
+use Rattle.addr_release.proofs.BuiltLemmas.{built-carries, bundle-there, free-after, held-as, holds-just, listed_puts, there-after}
 use Rattle.addr_release.proofs.FaithfulLemmas.{Carries, HasAssets, good-along, has-assets}
 use Rattle.addr_release.proofs.ImageLemmas.{AreOpened, FilesApart, beside, image-at, member-asset, told-leads}
 use Rattle.addr_release.proofs.OpenedLemmas.{files-apart, hex-same, zip-from}
@@ -111,6 +112,12 @@ module _ (p : Project) (project : IsKeptProject p) (plan : Plan) (placed : IsPla
   assets : HasAssets p
   assets = has-assets p project
 
+  free : NoneTaken files folder r
+  free = free-after p plan project placed r folder old files (plan, placed, is) none after
+
+  there : AreThere (listed_puts folder r) files
+  there = there-after p plan project placed r folder old files (plan, placed, is) none after
+
   -- the bundle of the release that the state speaks of
   made-of : (b : ℕ) (s : StateBundle) → slice_get r.state.bundles b ≡ Some s → (made : ReleaseBundle) × (slice_get r.bundles b ≡ Some made) × IsStateBundleOf p plan b made s × IsBundleOf p plan b made
   made-of b s at = let told = is.told.each b s at in (told.0, told.1, told.2, is.rows.each b told.0 told.1)
@@ -124,7 +131,7 @@ module _ (p : Project) (project : IsKeptProject p) (plan : Plan) (placed : IsPla
       let key : file_name told.bundle.name made.0.row.digest ≡ made.0.row.key =
       ap (λ (x : PlanBundle). file_name x.name made.0.row.digest) bundle ∙ (ap (λ (d : Digest). file_name own.bundle.name d) own.told.digest ∙ sym own.told.key) in
       let name : path folder s.file ≡ side_path folder made.0.remote made.0.row.key = ap (path folder) (told.file ∙ ap (λ (k : List ℕ). side_folder made.0.remote ++ k) key) in
-      ap (λ (n : List ℕ). file_at n files) name ∙ bundle-there p plan r placed is folder old files none after b made.0 made.1
+      ap (λ (n : List ℕ). file_at n files) name ∙ bundle-there p plan r placed is folder files free there b made.0 made.1
 
   one-intact : (b : ℕ) (s : StateBundle) → slice_get r.state.bundles b ≡ Some s → (w : Opened) × IsIntact files folder s w
   one-intact b s at =
@@ -268,7 +275,7 @@ module _ (p : Project) (project : IsKeptProject p) (plan : Plan) (placed : IsPla
       fresh,
       record {
         catalogue = is.alike.0;
-        held = held-as p plan r placed is folder old files none after;
+        held = held-as p plan r placed is folder files free there;
         intact = all-intact.1;
         rows = refl;
         project = refl;

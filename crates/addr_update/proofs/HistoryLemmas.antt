@@ -15,7 +15,7 @@ use Rattle.addr_release.specs.Names.{bundle_file, catalogue_path, hash_path, sid
 use Rattle.addr_release.specs.Opened.{Opened}
 use Rattle.addr_release.specs.Resolve.{IsOpened, IsRelease, Resolve}
 use Rattle.addr_release.specs.Sound.{HasSoundRelease}
-use Rattle.addr_release.proofs.BuiltLemmas.{held-as, release-shows, release-sound}
+use Rattle.addr_release.proofs.BuiltLemmas.{free-after, held-as, release-shows, release-sound, there-after}
 use Rattle.addr_release.proofs.NameLemmas.{bytes-apart, path-same, state-beside}
 use Rattle.addr_state.specs.Files.{file_name, side_file}
 use Rattle.addr_state.specs.Reading.{state_read}
@@ -148,7 +148,10 @@ edit-keeps sound folder m n was edit = record {
 
 pub build-ships : (folder : List ℕ) (m n : Moment) → IsBuild folder m n → IsShipped folder n
 build-ships folder m n build =
-    let held = held-as n.project build.plan build.release build.placed build.is folder m.files n.files build.free build.after in
+    let of = (build.plan, build.placed, build.is) in
+    let free = free-after n.project build.plan build.keeps build.placed build.release folder m.files n.files of build.free build.after in
+    let there = there-after n.project build.plan build.keeps build.placed build.release folder m.files n.files of build.free build.after in
+    let held = held-as n.project build.plan build.release build.placed build.is folder n.files free there in
     let intact = all-intact n.project build.keeps build.plan build.placed build.release build.is folder m.files n.files build.free build.after in
     record {
       shows = release-shows n.project build.plan build.keeps build.placed build.release folder m.files n.files (build.plan, build.placed, build.is) build.free build.after build.apart;
