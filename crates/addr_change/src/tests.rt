@@ -18,7 +18,8 @@ const PROJECT: &str = "[[group]]\nname = 'a b'\n\
     [[entry]]\nguid = '00000000000000000000000000000001'\ngroup = 'a b'\naddress = 'a'\n";
 
 /// The same, in a group whose name is 64 spaces: each takes three bytes in the bundle's name.
-const LONG: &str = "[[group]]\nname = '                                                                '\n\
+const LONG: &str =
+    "[[group]]\nname = '                                                                '\n\
     [[asset]]\nguid = '00000000000000000000000000000001'\ntype = 'T'\nfile = 'a'\n\
     [[entry]]\nguid = '00000000000000000000000000000001'\n\
     group = '                                                                '\naddress = 'a'\n";
