@@ -5,6 +5,10 @@ use Rattle.addr_base.specs.Files.{SameStore, Store}
 use Rattle.addr_base.specs.Streams.{Stream}
 use Rattle.addr_base.specs.Tokens.{token_of}
 use Rattle.addr_project.specs.Printed.{fault_text, limit_text}
+use Rattle.addr_release.specs.Held.{IsHeld}
+use Rattle.addr_release.specs.Laws.{Keeps}
+use Rattle.addr_build.specs.After.{IsAgain, IsSoundFor, Leaves, Serves, Shows}
+use Rattle.addr_build.specs.Moments.{AtEachMoment}
 use Rattle.addr_build.specs.Outcomes.{Answers, BuildRose, Builds, IsEarly}
 use Rattle.addr_build.specs.declared.error.BuildErr.{BuildErr}
 use Rattle.addr_build.specs.declared.error.BuildErr.TheVariants.{Project, TooLarge, NameTaken, DepotFault, NoMemory}
@@ -47,14 +51,29 @@ built_line (Err refusal) = refused_line refusal
 -- a build of the folder's project ended so, and this is what stands in the depot and stood at each moment
 pub record HasBuilt (folder : List ℕ) (depot depot_after : Store) (ended : Result Summary BuildErr) : Type 0 where
   pub answers : IfSome depot.files (λ old. IsSomeAnd depot_after.files (λ new. Answers folder old new ended))
+  pub shows : Leaves (λ done. Shows folder) depot depot_after ended
+  pub sound : Leaves (λ done. IsSoundFor folder) depot depot_after ended
+  pub held : Leaves (λ done old new. IsHeld new folder) depot depot_after ended
+  pub again : IsAgain folder depot depot_after ended
+  pub serves : AtEachMoment (Serves folder) depot depot_after
+  pub keeps : AtEachMoment (Keeps folder) depot depot_after
   pub moments : Builds folder depot depot_after
   pub early : IsEarly ended → SameStore depot depot_after
   pub cause : BuildRose depot.faults depot_after.faults ended
 
--- the end of a build was printed; or its line found no memory, and the one was that says so
+-- the line of an end has to be written before it is printed, and so takes memory
+abbrev pub TakesMemory : Result Summary BuildErr → Type 0
+TakesMemory (Ok summary) = Unit {0}
+TakesMemory (Err NoMemory) = ⊥
+TakesMemory (Err DepotFault) = ⊥
+TakesMemory (Err (Project fault)) = Unit {0}
+TakesMemory (Err (NameTaken name)) = Unit {0}
+TakesMemory (Err (TooLarge which count)) = Unit {0}
+
+-- the end of a build was printed; or its line takes memory and found none, and the one was printed that says so
 abbrev pub PrintsEnd : Result Summary BuildErr → ℕ → Stream → Stream → Type 0
 PrintsEnd ended status out out_after = PrintsText (built_status ended) (built_line ended ++ 10 ∷ []) status out out_after
-    ⊎ PrintsText 1 (codes "error 1 memory" ++ 10 ∷ []) status out out_after
+    ⊎ (TakesMemory ended × PrintsText 1 (codes "error 1 memory" ++ 10 ∷ []) status out out_after)
 
 -- nothing but the line of usage was written, and no depot was asked
 pub record IsUnasked (words : List (List ℕ)) (depot depot_after : Store) (out out_after : Stream) (status : ℕ) : Type 0 where
@@ -75,8 +94,10 @@ abbrev pub BuildsTo : List (List ℕ) → Store → Store → Stream → Stream 
 BuildsTo words depot depot_after out out_after status =
     IsAsked words depot depot_after out out_after status ⊎ IsUnasked words depot depot_after out out_after status
 
--- the causes of a status: 3 only where the depot's count of faults rose, and 13 only where the sink's did
+-- the causes of a status: 3 only where the depot's count of faults rose, which it does under no other but 13, and 13 exactly
+-- where the sink's rose
 pub record HasBuildCauses (depot depot_after : Store) (out out_after : Stream) (status : ℕ) : Type 0 where
   pub depot_rose : status ≡ 3 → Rose depot.faults depot_after.faults
+  pub depot_kept : status ≢ 3 → status ≢ 13 → depot_after.faults ≡ depot.faults
   pub sink_rose : status ≡ 13 → Rose out.faults out_after.faults
   pub sink_kept : status ≢ 13 → out_after.faults ≡ out.faults

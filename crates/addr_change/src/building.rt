@@ -2,9 +2,9 @@
 ghost use Rattle.std.specs.Prelude.{◌≡◌, ◌++◌, ◌∷◌, [], IfOk, MatchOption, string_bytes};
 ghost use Rattle.addr_base.specs.Faults.{one_more};
 ghost use Rattle.addr_build.specs.declared.error.BuildErr.TheVariants.{NameTaken};
-ghost use Rattle.addr_change.specs.Building.{AsksToBuild, BuildsTo, HasBuildCauses, IsBuildLine, PrintsEnd, built_line, built_status, refused_line, summary_line};
+ghost use Rattle.addr_change.specs.Building.{AsksToBuild, BuildsTo, HasBuildCauses, IsBuildLine, PrintsEnd, TakesMemory, built_line, built_status, refused_line, summary_line};
 
-use crate::printing::{print, print_usage, print_want};
+use crate::printing::{DEPOT_LINE, MEMORY_LINE, print, print_usage, print_want};
 use addr_base::{Depot, NoMemory, Sink, Text, token};
 use addr_build::{BuildErr, Summary, build};
 use addr_fields::is_same;
@@ -43,6 +43,32 @@ fn folder_of(words: &[Text]) -> Option<&Text>
 
 /// Prints the line of a build's end.
 fn print_end<K: Sink>(alloc: Global, ended: &Result<Summary, BuildErr>, out: &mut K) -> u8
+    ensures prints { PrintsEnd ended.now result (K.now out.old) (K.now out.new) }
+    ensures once { (K.now out.new).puts ≡ one_more (K.now out.old).puts }
+{
+    match fixed_line(ended) {
+        Some(line) => print(out, line, built_status(ended)),
+        None => print_written(alloc, ended, out),
+    }
+}
+
+/// The line of an end that is always the same; that of another end has to be written.
+fn fixed_line(ended: &Result<Summary, BuildErr>) -> Option<&'static [u8]>
+    ensures { MatchOption result (TakesMemory ended.now) (λ line. line.now ≡ built_line ended.now ++ 10 ∷ []) }
+{
+    match ended {
+        Err(BuildErr::NoMemory) => Some(MEMORY_LINE),
+        Err(BuildErr::DepotFault) => Some(DEPOT_LINE),
+        Ok(_)
+        | Err(BuildErr::Project(_))
+        | Err(BuildErr::NameTaken(_))
+        | Err(BuildErr::TooLarge { .. }) => None,
+    }
+}
+
+/// Writes the line of an end and prints it, or the line that says that memory is wanted.
+fn print_written<K: Sink>(alloc: Global, ended: &Result<Summary, BuildErr>, out: &mut K) -> u8
+    requires takes { TakesMemory ended.now }
     ensures prints { PrintsEnd ended.now result (K.now out.old) (K.now out.new) }
     ensures once { (K.now out.new).puts ≡ one_more (K.now out.old).puts }
 {

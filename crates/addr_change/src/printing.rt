@@ -8,6 +8,9 @@ use addr_base::Sink;
 /// What is printed where a line finds no memory.
 pub const MEMORY_LINE: &[u8] = b"error 1 memory\n";
 
+/// What is printed of a depot's fault. It takes no memory.
+pub const DEPOT_LINE: &[u8] = b"error 3 depot\n";
+
 /// What is printed where the words are no command's. It takes no memory.
 pub const USAGE_LINE: &[u8] = b"error 2 usage\n";
 
