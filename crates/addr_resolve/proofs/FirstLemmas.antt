@@ -12,7 +12,7 @@ use Rattle.std.specs.Str.{bytes_eq}
 use Rattle.addr_locate.specs.declared.rows.BundleRow.{BundleRow}
 use Rattle.addr_release.specs.Opened.{Opened}
 use Rattle.addr_resolve.specs.Items.{AreNamed}
-use Rattle.addr_resolve.specs.Leading.{AreFirsts, first_of}
+use Rattle.addr_resolve.specs.within.Leading.{AreFirsts, first_of}
 
 place-after : {X : Type 0} (p : X → Bool) (xs : List X) (x : X) (i : ℕ) → position_from p i (xs ++ x ∷ []) ≡ option_or (position_from p i xs) (cond (p x) (Some (i + length xs)) None)
 place-after p [] x i = let same : i + 0 ≡ i = omega arith in rw same refl

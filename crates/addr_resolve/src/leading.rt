@@ -4,7 +4,7 @@ ghost use Rattle.std.specs.List.{AllZip};
 ghost use Rattle.std.specs.List.Sorted.{IsStrictlySortedBy};
 ghost use Rattle.addr_base.specs.Images.{Object};
 ghost use Rattle.addr_resolve.specs.Items.{AreHeld, Lends};
-ghost use Rattle.addr_resolve.specs.Leading.{AreLinks, AreLinksOf, IsLoose, IsLossOf, IsRowOf, LeadsAt, first_of};
+ghost use Rattle.addr_resolve.specs.within.Leading.{AreLinks, AreLinksOf, IsUnresolved, IsLostOf, IsRowOf, LeadsAt, first_of};
 ghost use Rattle.addr_resolve.specs.Order.{place_cmp};
 
 use crate::graph::PlaceRow;
@@ -31,10 +31,15 @@ pub(crate) struct Table {
 }
 
 /// The number of the place to which a reference leads.
-fn end_of(firsts: &BTreeMap<&[u8], u32>, places: &[PlaceRow], bundle: u32, r: &RefTo) -> Option<u32>
+fn target_of(
+    firsts: &BTreeMap<&[u8], u32>,
+    places: &[PlaceRow],
+    bundle: u32,
+    r: &RefTo,
+) -> Option<u32>
     requires few { length places.now < 2 ^ 32 }
     requires rising { IsStrictlySortedBy place_cmp places.now }
-    ensures { MatchOption result (IsLoose (first_of firsts.now) places.now bundle r.now)
+    ensures { MatchOption result (IsUnresolved (first_of firsts.now) places.now bundle r.now)
         (LeadsAt (first_of firsts.now) places.now bundle r.now) }
 {
     match bundle_of(firsts, bundle, r.home) {
@@ -49,6 +54,7 @@ fn end_of(firsts: &BTreeMap<&[u8], u32>, places: &[PlaceRow], bundle: u32, r: &R
     }
 }
 
+/// Where some references of an object of a bundle lead.
 fn links_of(
     alloc: Global,
     firsts: &BTreeMap<&[u8], u32>,
@@ -63,7 +69,7 @@ fn links_of(
     let mut row = Items::new(alloc);
     let mut lost = None;
     for r in refs {
-        match end_of(firsts, places, bundle, r) {
+        match target_of(firsts, places, bundle, r) {
             Some(n) => row.push(n)?,
             None => lost = lesser(lost, Some(r.guid)),
         }
@@ -105,7 +111,7 @@ pub(crate) fn table_of(
     requires rising { IsStrictlySortedBy place_cmp places.now }
     requires held { AreHeld cabs.now places.now }
     ensures rows { IfOk result (λ t. AllZip (IsRowOf (first_of firsts.now) cabs.now places.now) places.now t.rows) }
-    ensures lost { IfOk result (λ t. AllZip (IsLossOf (first_of firsts.now) cabs.now places.now) places.now t.lost) }
+    ensures lost { IfOk result (λ t. AllZip (IsLostOf (first_of firsts.now) cabs.now places.now) places.now t.lost) }
 {
     let mut rows = Items::new(alloc);
     let mut lost = Items::new(alloc);

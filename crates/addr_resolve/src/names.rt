@@ -2,7 +2,7 @@
 // as the rows have them, and none is copied.
 ghost use Rattle.std.specs.Prelude.{◌≡◌, ◌<◌, ◌^◌, length, IfOk};
 ghost use Rattle.addr_base.specs.Ids.{hex_of};
-ghost use Rattle.addr_resolve.specs.Leading.{AreFirsts, bundle_of, first_of};
+ghost use Rattle.addr_resolve.specs.within.Leading.{AreFirsts, bundle_of, first_of};
 
 use addr_base::{Digest, Home, NoMemory};
 use addr_locate::BundleRow;

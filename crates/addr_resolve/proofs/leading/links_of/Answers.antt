@@ -2,8 +2,8 @@ use Rattle.std.proofs.Common.{◌≡◌, ◌<◌, ◌+◌, length, get_or, take,
 use Rattle.std.proofs.lemmas.List.{get_or_default}
 use Rattle.addr_base.specs.declared.ids.Guid.{Guid}
 use Rattle.addr_base.specs.declared.images.RefTo.{RefTo}
-use Rattle.addr_resolve.specs.Leading.{AreLinks, first_of}
-use Rattle.addr_resolve.proofs.LinkLemmas.{links-found, links-loose, no-ref}
+use Rattle.addr_resolve.specs.within.Leading.{AreLinks, first_of}
+use Rattle.addr_resolve.proofs.LinkLemmas.{links-found, links-unresolved, no-ref}
 use Rattle.addr_resolve.proofs.leading.links_of.Goals.{in-Some+in_ok-push-in-Some, in-None}
 use Rattle.addr_resolve.proofs.leading.links_of.Goals as goal
 
@@ -17,9 +17,9 @@ loop-r-preserved c =
     let r : RefTo = get_or refs k no-ref in
     let within : k < length refs = c.loop-r-test.true in
     let read : r ≡ get_or refs k r = get_or_default refs k no-ref r within in
-    elim c.match-end_of.branch [
-      | in-Some+in_ok-push-in-Some w ↦ subst (λ (ns : List ℕ). AreLinks find places b (take (k + 1) refs) ns c.match-end_of.lost) (sym w.row-is) (subst (λ (l : Option Guid). AreLinks find places b (take (k + 1) refs) w.push.new.self l) (sym w.lost-is)
+    elim c.match-target_of.branch [
+      | in-Some+in_ok-push-in-Some w ↦ subst (λ (ns : List ℕ). AreLinks find places b (take (k + 1) refs) ns c.match-target_of.lost) (sym w.row-is) (subst (λ (l : Option Guid). AreLinks find places b (take (k + 1) refs) w.push.new.self l) (sym w.lost-is)
           (links-found find places b refs k r within read c.loop-r.row w.push.new.self c.loop-r.lost w.in-Some.n w.in-Some.ensures w.in_ok-push-in-Some.ensures.ok c.loop-r.invariant))
-      | in-None w ↦ subst (λ (ns : List ℕ). AreLinks find places b (take (k + 1) refs) ns c.match-end_of.lost) (sym w.row-is) (subst (λ (l : Option Guid). AreLinks find places b (take (k + 1) refs) c.loop-r.row l) (sym (w.lost-is ∙ w.lesser-lost.ensures))
-          (links-loose find places b refs k r within read c.loop-r.row c.loop-r.lost w.in-None.ensures c.loop-r.invariant))
+      | in-None w ↦ subst (λ (ns : List ℕ). AreLinks find places b (take (k + 1) refs) ns c.match-target_of.lost) (sym w.row-is) (subst (λ (l : Option Guid). AreLinks find places b (take (k + 1) refs) c.loop-r.row l) (sym (w.lost-is ∙ w.lesser-lost.ensures))
+          (links-unresolved find places b refs k r within read c.loop-r.row c.loop-r.lost w.in-None.ensures c.loop-r.invariant))
     ]

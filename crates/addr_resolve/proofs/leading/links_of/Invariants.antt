@@ -1,5 +1,5 @@
 use Rattle.std.proofs.Common.{take}
-use Rattle.addr_resolve.specs.Leading.{AreLinks, first_of}
+use Rattle.addr_resolve.specs.within.Leading.{AreLinks, first_of}
 use Rattle.addr_resolve.proofs.leading.links_of.Given as goal
 
 abbrev pub invariant-loop-r : goal.invariant-loop-r

@@ -3,7 +3,7 @@ use Rattle.std.proofs.lemmas.List.{get_or_default}
 use Rattle.std.proofs.lemmas.Option.{slice_get-get_or}
 use Rattle.std.specs.List.{AllZip}
 use Rattle.addr_walks.proofs.Zips.{zip-more}
-use Rattle.addr_resolve.specs.Leading.{AreLinksOf, IsLossOf, IsRowOf, first_of}
+use Rattle.addr_resolve.specs.within.Leading.{AreLinksOf, IsLostOf, IsRowOf, first_of}
 use Rattle.addr_resolve.specs.declared.graph.PlaceRow.{PlaceRow}
 use Rattle.addr_resolve.proofs.UnfoldLemmas.{no-place}
 use Rattle.addr_resolve.proofs.leading.table_of.Goals as goal
@@ -26,6 +26,6 @@ loop-place-preserved c =
     let links = c.in_ok-links.links in
     let are : AreLinksOf find cabs places q links.row links.lost = c.in_ok-links.ensures in
     record {
-      rows = subst (AllZip (IsRowOf find cabs places) (take (i + 1) places)) (sym c.in_ok-push.ensures.ok) (zip-more (IsRowOf find cabs places) places c.loop-place.rows i q links.row within read c.loop-place.invariant.rows (are.0, are.1, are.2.ends));
-      lost = subst (AllZip (IsLossOf find cabs places) (take (i + 1) places)) (sym c.in_ok-push-2.ensures.ok) (zip-more (IsLossOf find cabs places) places c.loop-place.lost i q links.lost within read c.loop-place.invariant.lost (are.0, are.1, are.2.loose));
+      rows = subst (AllZip (IsRowOf find cabs places) (take (i + 1) places)) (sym c.in_ok-push.ensures.ok) (zip-more (IsRowOf find cabs places) places c.loop-place.rows i q links.row within read c.loop-place.invariant.rows (are.0, are.1, are.2.targets));
+      lost = subst (AllZip (IsLostOf find cabs places) (take (i + 1) places)) (sym c.in_ok-push-2.ensures.ok) (zip-more (IsLostOf find cabs places) places c.loop-place.lost i q links.lost within read c.loop-place.invariant.lost (are.0, are.1, are.2.unresolved));
     }

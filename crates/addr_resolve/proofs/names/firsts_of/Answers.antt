@@ -1,6 +1,6 @@
 use Rattle.std.proofs.Common.{◌≡◌, ◌<◌, ◌+◌, ℕ, BTreeMap, Bor, List, length, take, subst, sym, ◌∙◌}
 use Rattle.addr_locate.specs.declared.rows.BundleRow.{BundleRow}
-use Rattle.addr_resolve.specs.Leading.{AreFirsts, first_of}
+use Rattle.addr_resolve.specs.within.Leading.{AreFirsts, first_of}
 use Rattle.addr_resolve.proofs.FirstLemmas.{firsts-new, firsts-old, none-of}
 use Rattle.addr_resolve.proofs.names.firsts_of.Goals.{then-not-contains_key+in_ok-insert, else-not-contains_key}
 use Rattle.addr_resolve.proofs.names.firsts_of.Goals as goal

@@ -1,5 +1,5 @@
 use Rattle.std.proofs.Common.{take}
-use Rattle.addr_resolve.specs.Leading.{AreFirsts, first_of}
+use Rattle.addr_resolve.specs.within.Leading.{AreFirsts, first_of}
 use Rattle.addr_resolve.proofs.names.firsts_of.Given as goal
 
 abbrev pub invariant-loop-b : goal.invariant-loop-b

@@ -37,24 +37,24 @@ abbrev pub LeadsAt : (List ℕ → Option ℕ) → List PlaceRow → ℕ → Ref
 LeadsAt find places b r n = (c : ℕ) × (bundle_of find b r.home ≡ Some c) × (slice_get places n ≡ Some (record { guid = r.guid; bundle = c }))
 
 -- it leads to none of the places
-abbrev pub IsLoose : (List ℕ → Option ℕ) → List PlaceRow → ℕ → RefTo → Type 0
-IsLoose find places b r = (n : ℕ) → LeadsAt find places b r n → ⊥
+abbrev pub IsUnresolved : (List ℕ → Option ℕ) → List PlaceRow → ℕ → RefTo → Type 0
+IsUnresolved find places b r = (n : ℕ) → LeadsAt find places b r n → ⊥
 
 -- the numbers of the places to which references lead
-pub record AreEnds (find : List ℕ → Option ℕ) (places : List PlaceRow) (b : ℕ) (refs : List RefTo) (row : List ℕ) : Type 0 where
+pub record AreTargets (find : List ℕ → Option ℕ) (places : List PlaceRow) (b : ℕ) (refs : List RefTo) (row : List ℕ) : Type 0 where
   pub within : (n : ℕ) → Contains row n → (r : RefTo) × Contains refs r × LeadsAt find places b r n
   pub all : (r : RefTo) (n : ℕ) → Contains refs r → LeadsAt find places b r n → (m : ℕ) × Contains row m × LeadsAt find places b r m
 
 -- the least GUID of a reference that leads to none of the places, if there is one
-abbrev pub IsLeastLoose : (List ℕ → Option ℕ) → List PlaceRow → ℕ → List RefTo → Option Guid → Type 0
-IsLeastLoose find places b refs None = (r : RefTo) → Contains refs r → (n : ℕ) × LeadsAt find places b r n
-IsLeastLoose find places b refs (Some g) = ((r : RefTo) × Contains refs r × (r.guid ≡ g) × IsLoose find places b r)
-    × ((r : RefTo) → Contains refs r → IsLoose find places b r → guid_cmp r.guid g ≡ Less → ⊥)
+abbrev pub IsLeastUnresolved : (List ℕ → Option ℕ) → List PlaceRow → ℕ → List RefTo → Option Guid → Type 0
+IsLeastUnresolved find places b refs None = (r : RefTo) → Contains refs r → (n : ℕ) × LeadsAt find places b r n
+IsLeastUnresolved find places b refs (Some g) = ((r : RefTo) × Contains refs r × (r.guid ≡ g) × IsUnresolved find places b r)
+    × ((r : RefTo) → Contains refs r → IsUnresolved find places b r → guid_cmp r.guid g ≡ Less → ⊥)
 
 -- where references lead, and what is lost
 pub record AreLinks (find : List ℕ → Option ℕ) (places : List PlaceRow) (b : ℕ) (refs : List RefTo) (row : List ℕ) (lost : Option Guid) : Type 0 where
-  pub ends : AreEnds find places b refs row
-  pub loose : IsLeastLoose find places b refs lost
+  pub targets : AreTargets find places b refs row
+  pub unresolved : IsLeastUnresolved find places b refs lost
 
 -- where the references of the object at a place lead, and what is lost
 abbrev pub AreLinksOf : (List ℕ → Option ℕ) → List Held → List PlaceRow → PlaceRow → List ℕ → Option Guid → Type 0
@@ -62,8 +62,8 @@ AreLinksOf find cabs places q row lost = (x : Object) × Lends cabs q x × AreLi
 
 -- where the references of the object at a place lead
 abbrev pub IsRowOf : (List ℕ → Option ℕ) → List Held → List PlaceRow → PlaceRow → List ℕ → Type 0
-IsRowOf find cabs places q row = (x : Object) × Lends cabs q x × AreEnds find places q.bundle x.refs row
+IsRowOf find cabs places q row = (x : Object) × Lends cabs q x × AreTargets find places q.bundle x.refs row
 
 -- the least GUID that they lose
-abbrev pub IsLossOf : (List ℕ → Option ℕ) → List Held → List PlaceRow → PlaceRow → Option Guid → Type 0
-IsLossOf find cabs places q lost = (x : Object) × Lends cabs q x × IsLeastLoose find places q.bundle x.refs lost
+abbrev pub IsLostOf : (List ℕ → Option ℕ) → List Held → List PlaceRow → PlaceRow → Option Guid → Type 0
+IsLostOf find cabs places q lost = (x : Object) × Lends cabs q x × IsLeastUnresolved find places q.bundle x.refs lost
