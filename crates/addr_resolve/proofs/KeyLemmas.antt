@@ -1,11 +1,11 @@
 -- The rows of a key by their numbers: a row has a key's number exactly where it has its text.
-use Rattle.std.proofs.Common.{ℕ, zero, suc, ◌≡◌, ◌==◌, ◌+◌, ◌<◌, ◌∙◌, Bool, true, false, not, ◌&&◌, ◌||◌, nat_lt, eqb, Option, Some, None, List, [], ◌∷◌, length, map, filter, refl, ap, ap₂, sym, subst, cond, arith}
+use Rattle.std.proofs.Common.{ℕ, zero, suc, ◌≡◌, ◌==◌, ◌+◌, ◌<◌, ◌∙◌, Bool, true, false, ◌&&◌, ◌||◌, nat_lt, Option, Some, None, List, [], ◌∷◌, length, map, filter, refl, ap, ap₂, sym, subst, cond, arith}
 use Rattle.std.proofs.Common.{◌↔◌, ◌⊎◌, inl, inr, IsTrue}
 use Rattle.std.proofs.lemmas.Bool.{false≢true}
 use Rattle.std.proofs.lemmas.List.Folds.{list_any-append}
 use Rattle.std.specs.Option.{option_map}
 use Rattle.std.proofs.lemmas.Bool.Decides.{nat_tests}
-use Rattle.std.specs.List.{AllZip, Contains, enumerate_from, list_any, flat_map, position, position_or_len, slice_get}
+use Rattle.std.specs.List.{AllZip, Contains, enumerate_from, list_any, flat_map, position, slice_get}
 use Rattle.std.specs.Str.{bytes_eq}
 use Rattle.addr_base.specs.declared.ids.KeyNo.{KeyNo}
 use Rattle.addr_base.specs.declared.ids.RowNo.{RowNo}

@@ -2,11 +2,11 @@
 use Rattle.std.proofs.Common.{ℕ, false, true, ◌≡◌, ◌<◌, ◌^◌, ◌↔◌, ◌∙◌, List, [], ◌∷◌, length, Option, Some, None, refl, ap, ap₂, sym, subst}
 use Rattle.std.proofs.lemmas.Cmp.{on_total, nat_list_cmp_total}
 use Rattle.std.specs.Cmp.{IsTotalOrder}
-use Rattle.std.specs.List.{AllZip, filter, slice_get}
+use Rattle.std.specs.List.{AllZip, filter}
 use Rattle.std.specs.Option.{option_or}
 use Rattle.std.specs.Prelude.{Ok}
 use Rattle.addr_base.specs.Files.{file_at}
-use Rattle.addr_base.specs.Ids.{Are16Bytes, hex_of}
+use Rattle.addr_base.specs.Ids.{hex_of}
 use Rattle.addr_base.specs.declared.files.MemFile.{MemFile}
 use Rattle.addr_base.specs.declared.ids.BundleNo.{BundleNo}
 use Rattle.addr_base.specs.declared.ids.Digest.{Digest}
@@ -26,7 +26,7 @@ use Rattle.addr_locate.specs.declared.rows.BundleRow.{BundleRow}
 use Rattle.addr_project.specs.Reach.{Item, Row, item_cmp}
 use Rattle.addr_release.specs.Names.{bundle_file, side_path}
 use Rattle.addr_release.specs.Opened.{Opened, IsUnfolding, Taken}
-use Rattle.addr_release.specs.Resolve.{IsOpened, IsRelease, Resolve, ResolvesKey, ResolvesRow}
+use Rattle.addr_release.specs.Resolve.{IsOpened, Resolve, ResolvesKey, ResolvesRow}
 use Rattle.addr_unityfs.specs.Faults.{bundle_read}
 use Rattle.addr_unityfs.specs.Format.{AreBytes, IsBundle}
 use Rattle.addr_unityfs.specs.declared.bundle.Bundle.{Bundle}

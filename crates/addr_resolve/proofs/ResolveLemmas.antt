@@ -1,7 +1,7 @@
 -- Resolving a key from its steps: the catalogue, the rows of the key, the opened bundles, and the rows one by one.
-use Rattle.std.proofs.Common.{ℕ, suc, ◌≡◌, ◌<◌, ◌∙◌, List, [], ◌∷◌, length, map, Some, None, refl, ap, sym, subst, arith}
+use Rattle.std.proofs.Common.{ℕ, suc, ◌≡◌, ◌<◌, ◌∙◌, List, [], ◌∷◌, length, map, refl, ap, sym, subst}
 use Rattle.std.specs.List.{AllZip}
-use Rattle.std.specs.Prelude.{Result, Ok, Err}
+use Rattle.std.specs.Prelude.{Ok, Err}
 use Rattle.addr_base.specs.declared.files.MemFile.{MemFile}
 use Rattle.addr_base.specs.declared.ids.Guid.{Guid}
 use Rattle.addr_base.specs.declared.ids.RowNo.{RowNo}
@@ -11,16 +11,12 @@ use Rattle.addr_locate.specs.Rows.{Rows}
 use Rattle.addr_locate.specs.declared.rows.AssetRow.{AssetRow}
 use Rattle.addr_locate.specs.declared.rows.BundleRow.{BundleRow}
 use Rattle.addr_release.specs.Opened.{Opened}
-use Rattle.addr_resolve.specs.FromDepot.{of_open}
 use Rattle.addr_resolve.specs.Items.{ShowsCabs}
 use Rattle.addr_resolve.specs.Items.{AreNamed}
-use Rattle.addr_resolve.specs.Opening.{IsFirstBad, IsOpenedAs, IsRefused, opened_all}
+use Rattle.addr_resolve.specs.Opening.{IsOpenedAs, opened_all}
 use Rattle.addr_resolve.specs.Resolving.{HasCatalogue, ResolveRose, Resolves, row_view, rows_with}
 use Rattle.addr_resolve.specs.within.Steps.{AreNumbersOf, FindsKey, ReadsRelease, ResolvesIn, ResolvesRows}
-use Rattle.addr_resolve.specs.declared.error.BundleFault.{BundleFault}
-use Rattle.addr_resolve.specs.declared.error.BundleFault.TheVariants.{Missing, Fs, Cab, Lost}
-use Rattle.addr_resolve.specs.declared.error.OpenErr.{OpenErr}
-use Rattle.addr_resolve.specs.declared.error.OpenErr.TheVariants as opening
+use Rattle.addr_resolve.specs.declared.error.BundleFault.TheVariants.{Lost}
 use Rattle.addr_resolve.specs.declared.error.ResolveErr.{ResolveErr}
 use Rattle.addr_resolve.specs.declared.error.ResolveErr.TheVariants.{NoRelease, BadCatalogue, NoKey, BadBundle, DepotFault, NoMemory}
 use Rattle.addr_resolve.specs.declared.rows.Resolved.{Resolved}

@@ -1,5 +1,5 @@
 -- Rows one by one: what is lost where nothing is there, and one more row at a step of the loop.
-use Rattle.std.proofs.Common.{ℕ, zero, suc, Bool, true, false, nat_lt, ◌&&◌, ◌≡◌, ◌≤◌, ◌+◌, ◌<◌, ◌⊎◌, inl, inr, ◌∙◌, List, [], ◌∷◌, ◌++◌, length, get_or, map, take, Option, Some, None, Less, Equal, refl, ap, ap₂, sym, subst, arith}
+use Rattle.std.proofs.Common.{ℕ, zero, suc, Bool, true, false, nat_lt, ◌&&◌, ◌≡◌, ◌≤◌, ◌+◌, ◌<◌, inl, inr, ◌∙◌, List, [], ◌∷◌, ◌++◌, length, get_or, map, take, Option, Some, Less, Equal, refl, ap, sym, subst, arith}
 use Rattle.std.proofs.lemmas.Bool.{false≢true}
 use Rattle.addr_layout.proofs.RankLemmas.{same-some}
 use Rattle.addr_locate.specs.Rows.{are_bundles, has_dep, has_sound_deps, no_repeats}
@@ -16,12 +16,10 @@ use Rattle.std.specs.Prelude.{IsErrAnd, Result, Ok, Err}
 use Rattle.addr_base.specs.declared.ids.BundleNo.{BundleNo}
 use Rattle.addr_base.specs.declared.ids.Guid.{Guid}
 use Rattle.addr_base.specs.declared.ids.RowNo.{RowNo}
-use Rattle.addr_cab.specs.Lookup.{Held}
 use Rattle.addr_cab.specs.declared.object.ObjectOut.{ObjectOut}
-use Rattle.addr_layout.specs.Agreement.{Place, place}
+use Rattle.addr_layout.specs.Agreement.{Place}
 use Rattle.addr_locate.specs.Rows.{Rows}
 use Rattle.addr_locate.specs.declared.rows.AssetRow.{AssetRow}
-use Rattle.addr_locate.specs.declared.rows.BundleRow.{BundleRow}
 use Rattle.addr_project.specs.Reach.{Row, guid_cmp}
 use Rattle.addr_release.specs.Opened.{Opened, Holds, Jumps}
 use Rattle.addr_release.specs.Resolve.{ResolvesRow}
@@ -30,7 +28,7 @@ use Rattle.addr_walks.specs.Walks.Leads.{stays, goes}
 use Rattle.addr_walks.proofs.Lists.{Contains-slice_get}
 use Rattle.addr_walks.proofs.Zips.{zip-more, zip-right}
 use Rattle.addr_resolve.specs.Graph.{AreInOrder, Before, IsGraph, place_at}
-use Rattle.addr_resolve.specs.Lost.{IsFirstLost, IsFirstUnfound, IsMissed, IsUnfound, LosesRow}
+use Rattle.addr_resolve.specs.Lost.{IsFirstLost, IsFirstUnfound, IsUnfound, LosesRow}
 use Rattle.addr_resolve.specs.Order.{place_cmp}
 use Rattle.addr_resolve.specs.Resolving.{IsFirstLostRow, row_view}
 use Rattle.addr_resolve.specs.declared.rows.Resolved.{Resolved}

@@ -1,11 +1,12 @@
-//! What the files of a release show: the bundles of a catalogue are opened, their objects are places with numbers, and the
-//! walk from a place is unfolded.
+//! What the files of a release show under a key: its catalogue is read, the bundles are opened, their objects are places with
+//! numbers, and the walk from the place of each row with the key is unfolded.
 //!
-//! Promise: `open_all` answers what the files of all rows hold, or exactly the first that is missing or can't be read
-//! (`specs/Opening.antt`); `unfold` answers exactly the unfolding over the graph of the files, or the least GUID that its
-//! walk loses (`specs/Graph.antt`, `specs/Lost.antt`).
+//! Promise: `resolve` answers exactly what the files show under a key, or the first cause of a refusal
+//! (`specs/Resolving.antt`); in it `open_all` answers what the files of all rows hold, or exactly the first that is missing or
+//! can't be read (`specs/Opening.antt`), and `unfold` exactly the unfolding over the graph of the files, or the least GUID that
+//! its walk loses (`specs/Graph.antt`, `specs/Lost.antt`).
 //! Units: bundles and places count from 0. Places stand in the order of GUIDs, and for each GUID in that of bundles.
-//! Left out: making the graph of the files, and the rows under a key. Start: `specs/Opening.antt`, then `specs/Graph.antt`.
+//! Left out: the text that is printed of it. Start: `specs/Resolving.antt`, then `src/resolving.rt`.
 #![tactic(auto)]
 
 mod error;

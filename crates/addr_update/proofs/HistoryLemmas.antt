@@ -148,7 +148,7 @@ edit-keeps sound folder m n was edit = record {
 
 pub build-ships : (folder : List ℕ) (m n : Moment) → IsBuild folder m n → IsShipped folder n
 build-ships folder m n build =
-    let of = (build.plan, build.placed, build.is) in
+    let of : IsReleaseOf n.project build.release = (build.plan, build.placed, build.is) in
     let free = free-after n.project build.plan build.keeps build.placed build.release folder m.files n.files of build.free build.after in
     let there = there-after n.project build.plan build.keeps build.placed build.release folder m.files n.files of build.free build.after in
     let held = held-as n.project build.plan build.release build.placed build.is folder n.files free there in

@@ -1,4 +1,4 @@
-use Rattle.std.proofs.Common.{◌≡◌, List, Err, ap, subst, sym, ◌∙◌}
+use Rattle.std.proofs.Common.{List, Err, ap, subst, sym, ◌∙◌}
 use Rattle.std.specs.List.{AllZip}
 use Rattle.addr_cab.specs.Lookup.{Held}
 use Rattle.addr_locate.specs.declared.rows.BundleRow.{BundleRow}

@@ -1,4 +1,4 @@
-use Rattle.std.proofs.Common.{◌≡◌, List, subst, sym, ◌∙◌}
+use Rattle.std.proofs.Common.{List, subst, sym, ◌∙◌}
 use Rattle.addr_base.specs.declared.ids.RowNo.{RowNo}
 use Rattle.addr_project.proofs.LoadLemmas.{if-some, if-some-at}
 use Rattle.addr_resolve.specs.Resolving.{Resolves, rows_with}

@@ -1,4 +1,4 @@
-use Rattle.std.proofs.Common.{◌≡◌, ◌∷◌, [], ◌∙◌, ℕ, List, Option, length, ap, arith}
+use Rattle.std.proofs.Common.{◌∷◌, [], ◌∙◌, Option, length, ap}
 use Rattle.addr_base.specs.declared.ids.KeyNo.{KeyNo}
 use Rattle.addr_locate.specs.Merge.{merged}
 use Rattle.addr_locate.specs.declared.rows.Kind.TheVariants.{Any}

@@ -1,7 +1,7 @@
-use Rattle.std.proofs.Common.{◌≡◌, ℕ, length, Err, subst}
+use Rattle.std.proofs.Common.{length, Err, subst}
 use Rattle.addr_resolve.specs.declared.unfolding.Stop.{Stop}
 use Rattle.addr_resolve.specs.within.Steps.{ResolvesOne}
-use Rattle.addr_resolve.proofs.RowLemmas.{named-lost, sound-first, sound-some}
+use Rattle.addr_resolve.proofs.RowLemmas.{named-lost, sound-first}
 use Rattle.addr_resolve.proofs.rows.named_row.Goals as goal
 
 pub lost-requires : goal.lost-requires

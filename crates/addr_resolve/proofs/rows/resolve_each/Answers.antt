@@ -1,13 +1,9 @@
-use Rattle.std.proofs.Common.{◌≡◌, ◌<◌, ◌≤◌, ◌+◌, ◌++◌, ◌∷◌, [], ◌∙◌, ℕ, List, length, get_or, map, take, Some, Err, ap, subst, sym, arith}
-use Rattle.std.proofs.lemmas.List.{map-append}
-use Rattle.std.proofs.lemmas.Option.{slice_get-get_or}
+use Rattle.std.proofs.Common.{◌≡◌, ◌+◌, ◌∙◌, List, map, take, Some, subst, sym, arith}
 use Rattle.std.specs.List.{AllZip, slice_get}
-use Rattle.addr_base.specs.declared.ids.RowNo.{RowNo}
 use Rattle.addr_locate.specs.declared.rows.AssetRow.{AssetRow}
 use Rattle.addr_project.specs.Reach.{Row}
 use Rattle.addr_release.specs.Resolve.{ResolvesRow}
 use Rattle.addr_resolve.specs.Resolving.{row_view}
-use Rattle.addr_resolve.specs.declared.rows.Resolved.{Resolved}
 use Rattle.addr_resolve.specs.within.Steps.{ResolvesRows}
 use Rattle.addr_resolve.proofs.RowLemmas.{all-rows, at-index, at-number, err-is, more-shown, number-at, one-more, row-stops}
 use Rattle.addr_resolve.proofs.rows.resolve_each.Goals as goal

@@ -1,4 +1,4 @@
-use Rattle.std.proofs.Common.{◌≡◌, ℕ, List, get_or, Some, None, inl, refl, subst, sym}
+use Rattle.std.proofs.Common.{ℕ, List, get_or, None, inl, refl, subst}
 use Rattle.std.proofs.lemmas.Option.{slice_get-get_or}
 use Rattle.addr_base.specs.Ids.{ReadsHex}
 use Rattle.addr_base.specs.declared.ids.BundleNo.{BundleNo}

@@ -1,4 +1,4 @@
-use Rattle.std.proofs.Common.{◌≡◌, List, subst, sym}
+use Rattle.std.proofs.Common.{List, subst, sym}
 use Rattle.addr_locate.specs.declared.rows.BundleRow.{BundleRow}
 use Rattle.addr_resolve.specs.Items.{AreNamed}
 use Rattle.addr_resolve.proofs.rows.resolve_rows.Goals as goal
