@@ -109,7 +109,7 @@ UpdateAlong p = (u : Update) → u.project ≡ p
     → (of : IsUpdateOf u old folder named r) → (k : ℕ) → IsAfter (take k (update_puts folder r)) old now
     → (k ≤ length r.bundles → ResolvesAsBefore folder old now)
     × (length r.bundles < k → (file_at (catalogue_path folder) now ≡ Some r.catalogue)
-        × (NamesApart of.plan → LeavesShown u old now folder))
+    × (NamesApart of.plan → LeavesShown u old now folder))
 
 -- in the catalogue that is then read, rows of kept entries have their old bundle, those of moved entries the bundle of these
 abbrev pub RowsTell : Project → Type 0
