@@ -10,6 +10,7 @@ use Rattle.addr_project.specs.Kept.{IsKept as IsKeptProject}
 use Rattle.addr_project.specs.Model.{Project}
 use Rattle.addr_project.specs.Reach.{Row, Shown}
 use Rattle.addr_project.specs.Reading.{ProjectOf, path}
+use Rattle.addr_release.specs.Built.{IsReleaseOf}
 use Rattle.addr_release.specs.Held.{HasDigest}
 use Rattle.addr_release.specs.Names.{bundle_file, catalogue_path, hash_path, side_path, state_path}
 use Rattle.addr_release.specs.Opened.{Opened}
