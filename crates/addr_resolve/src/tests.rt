@@ -25,7 +25,7 @@ fn fault_number(alloc: Global, depot: &mut MemDepot) -> Result<Option<u8>, NoMem
             _ if key.as_str() != "k" => None,
             BundleFault::Missing => Some(0),
             BundleFault::Fs(fault) => fault.number(),
-            BundleFault::Cab(_) => None,
+            BundleFault::Cab(_) | BundleFault::Lost(_) => None,
         }),
         _ => Ok(None),
     }
