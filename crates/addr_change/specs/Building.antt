@@ -1,6 +1,5 @@
 -- What `build` ends with: which words ask for it, the line that is printed of its end, and the status of that.
-use Rattle.std.specs.Prelude.{ℕ, ◌≡◌, ◌≢◌, ◌++◌, ◌⊎◌, List, [], ◌∷◌, codes, decimal, Result, Ok, Err, IfSome, IsSomeAnd}
-use Rattle.addr_base.specs.Faults.{Rose}
+use Rattle.std.specs.Prelude.{ℕ, ◌≡◌, ◌++◌, ◌⊎◌, List, [], ◌∷◌, codes, decimal, Result, Ok, Err, IfSome, IsSomeAnd}
 use Rattle.addr_base.specs.Files.{SameStore, Store}
 use Rattle.addr_base.specs.Streams.{Stream}
 use Rattle.addr_base.specs.Tokens.{token_of}
@@ -13,7 +12,7 @@ use Rattle.addr_build.specs.Outcomes.{Answers, BuildRose, Builds, IsEarly}
 use Rattle.addr_build.specs.declared.error.BuildErr.{BuildErr}
 use Rattle.addr_build.specs.declared.error.BuildErr.TheVariants.{Project, TooLarge, NameTaken, DepotFault, NoMemory}
 use Rattle.addr_build.specs.declared.release.Summary.{Summary}
-use Rattle.addr_change.specs.Printing.{PrintsText}
+use Rattle.addr_change.specs.Printing.{IsUnasked, PrintsOrWants}
 
 -- the words ask to build the release of a folder
 abbrev pub AsksToBuild : List (List ℕ) → List ℕ → Type 0
@@ -72,14 +71,7 @@ TakesMemory (Err (TooLarge which count)) = Unit {0}
 
 -- the end of a build was printed; or its line takes memory and found none, and the one was printed that says so
 abbrev pub PrintsEnd : Result Summary BuildErr → ℕ → Stream → Stream → Type 0
-PrintsEnd ended status out out_after = PrintsText (built_status ended) (built_line ended ++ 10 ∷ []) status out out_after
-    ⊎ (TakesMemory ended × PrintsText 1 (codes "error 1 memory" ++ 10 ∷ []) status out out_after)
-
--- nothing but the line of usage was written, and no depot was asked
-pub record IsUnasked (words : List (List ℕ)) (depot depot_after : Store) (out out_after : Stream) (status : ℕ) : Type 0 where
-  pub other : IsBuildLine words → ⊥
-  pub same : depot_after ≡ depot
-  pub prints : PrintsText 2 (codes "error 2 usage" ++ 10 ∷ []) status out out_after
+PrintsEnd ended status out out_after = PrintsOrWants (TakesMemory ended) (built_status ended) (built_line ended ++ 10 ∷ []) status out out_after
 
 -- the words were asked for and their build has ended
 pub record IsAsked (words : List (List ℕ)) (depot depot_after : Store) (out out_after : Stream) (status : ℕ) : Type 0 where
@@ -92,12 +84,4 @@ pub record IsAsked (words : List (List ℕ)) (depot depot_after : Store) (out ou
 -- how `build` ends: as its words ask, with that end's line and status, or as usage
 abbrev pub BuildsTo : List (List ℕ) → Store → Store → Stream → Stream → ℕ → Type 0
 BuildsTo words depot depot_after out out_after status =
-    IsAsked words depot depot_after out out_after status ⊎ IsUnasked words depot depot_after out out_after status
-
--- the causes of a status: 3 only where the depot's count of faults rose, which it does under no other but 13, and 13 exactly
--- where the sink's rose
-pub record HasBuildCauses (depot depot_after : Store) (out out_after : Stream) (status : ℕ) : Type 0 where
-  pub depot_rose : status ≡ 3 → Rose depot.faults depot_after.faults
-  pub depot_kept : status ≢ 3 → status ≢ 13 → depot_after.faults ≡ depot.faults
-  pub sink_rose : status ≡ 13 → Rose out.faults out_after.faults
-  pub sink_kept : status ≢ 13 → out_after.faults ≡ out.faults
+    IsAsked words depot depot_after out out_after status ⊎ IsUnasked (IsBuildLine words) depot depot_after out out_after status

@@ -1,2 +1,6 @@
 pub mod Printing
 pub mod Building
+pub mod ResolvedText
+pub mod Resolving
+pub mod CheckText
+pub mod Checking

@@ -2,7 +2,8 @@
 ghost use Rattle.std.specs.Prelude.{◌≡◌, ◌++◌, ◌∷◌, [], IfOk, MatchOption, string_bytes};
 ghost use Rattle.addr_base.specs.Faults.{one_more};
 ghost use Rattle.addr_build.specs.declared.error.BuildErr.TheVariants.{NameTaken};
-ghost use Rattle.addr_change.specs.Building.{AsksToBuild, BuildsTo, HasBuildCauses, IsBuildLine, PrintsEnd, TakesMemory, built_line, built_status, refused_line, summary_line};
+ghost use Rattle.addr_change.specs.Building.{AsksToBuild, BuildsTo, IsBuildLine, PrintsEnd, TakesMemory, built_line, built_status, refused_line, summary_line};
+ghost use Rattle.addr_change.specs.Printing.{HasCauses};
 
 use crate::printing::{DEPOT_LINE, MEMORY_LINE, print, print_usage, print_want};
 use addr_base::{Depot, NoMemory, Sink, Text, token};
@@ -15,7 +16,7 @@ use std::alloc::Global;
 /// `Answers` of addr_build.
 pub fn run_build<D: Depot, K: Sink>(alloc: Global, words: &[Text], depot: &mut D, out: &mut K) -> u8
     ensures outcome { BuildsTo words.now (D.now depot.old) (D.now depot.new) (K.now out.old) (K.now out.new) result }
-    ensures causes { HasBuildCauses (D.now depot.old) (D.now depot.new) (K.now out.old) (K.now out.new) result }
+    ensures causes { HasCauses (D.now depot.old) (D.now depot.new) (K.now out.old) (K.now out.new) result }
     ensures one_put { (K.now out.new).puts ≡ one_more (K.now out.old).puts }
 {
     let Some(folder) = folder_of(words) else {

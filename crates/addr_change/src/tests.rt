@@ -1,5 +1,5 @@
 // What no clause says: the lines as they are printed, and that a build succeeds where memory is ample.
-use crate::run_build;
+use crate::{run_build, run_resolve};
 use addr_base::{Depot, MemDepot, MemSink, Text};
 use std::alloc::Global;
 use std::test::Fail;
@@ -21,6 +21,7 @@ fn folder(alloc: Global, fails: &[u32]) -> Result<MemDepot, Fail> {
     let _project = depot.put(alloc, "F/project.toml", project.as_bytes());
     let _asset = depot.put(alloc, "F/a", b"A");
     let _broken = depot.put(alloc, "E/project.toml", b"=");
+    let _bad = depot.put(alloc, "E/remote/catalog_main.json", b"=");
     Ok(depot)
 }
 
@@ -38,6 +39,37 @@ fn prints_one_line_of_each_end(rt: HostRuntime) -> Result<(), Fail> {
         let words = words(rt.alloc(), &line)?;
         assert_eq!(rt;
             run_build(rt.alloc(), words.as_slice(), &mut depot, &mut out),
+            status
+        );
+        assert_eq!(rt; out.written(), want.as_bytes());
+    }
+    Ok(())
+}
+
+#[test]
+fn shows_what_was_built(rt: HostRuntime) -> Result<(), Fail> {
+    let mut depot = folder(rt.alloc(), &[99])?;
+    let mut log = MemSink::new(rt.alloc(), Vec::new(rt.alloc()));
+    let build = words(rt.alloc(), &["build", "F"])?;
+    let _built = run_build(rt.alloc(), build.as_slice(), &mut depot, &mut log);
+    for (line, status, want) in [
+        (
+            ["resolve", "F", "a"],
+            0u8,
+            "asset 00000000000000000000000000000001 T\nitem 00000000000000000000000000000001 1 41 -\n",
+        ),
+        (["resolve", "F", "a b"], 12, "error 12 a%20b\n"),
+        (
+            ["resolve", "N", "a"],
+            5,
+            "error 5 N/remote/catalog_main.json\n",
+        ),
+        (["resolve", "E", "a"], 7, "error 7 1\n"),
+    ] {
+        let mut out = MemSink::new(rt.alloc(), Vec::new(rt.alloc()));
+        let words = words(rt.alloc(), &line)?;
+        assert_eq!(rt;
+            run_resolve(rt.alloc(), words.as_slice(), &mut depot, &mut out),
             status
         );
         assert_eq!(rt; out.written(), want.as_bytes());

@@ -5,8 +5,7 @@ use Rattle.addr_locate.specs.PlainRows.{ReadsRows}
 use Rattle.addr_locate.specs.Rows.{Rows}
 use Rattle.addr_locate.specs.declared.error.RowsErr.TheVariants.{Line as RowsLine}
 use Rattle.addr_locate.proofs.PlainLaws.{bad_no_plain}
-use Rattle.addr_script.specs.Scripts.{ReadsScript}
-use Rattle.addr_script.specs.declared.script.Script.{Script}
+use Rattle.addr_script.specs.Scripts.{ReadsScript, Script}
 use Rattle.addr_script.specs.declared.error.ScriptErr.TheVariants.{Line as ScriptLine}
 use Rattle.addr_script.proofs.ScriptLaws.{bad_no_script}
 

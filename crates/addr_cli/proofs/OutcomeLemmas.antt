@@ -14,8 +14,7 @@ use Rattle.addr_catalog.specs.declared.catalogue.Catalogue.{Catalogue}
 use Rattle.addr_locate.specs.PlainRows.{ReadsRows}
 use Rattle.addr_locate.specs.Rows.{Rows}
 use Rattle.addr_locate.specs.declared.error.RowsErr.TheVariants.{Line as RowsLine}
-use Rattle.addr_script.specs.Scripts.{ReadsScript}
-use Rattle.addr_script.specs.declared.script.Script.{Script}
+use Rattle.addr_script.specs.Scripts.{ReadsScript, Script}
 use Rattle.addr_script.specs.declared.error.ScriptErr.TheVariants.{Line as ScriptLine}
 use Rattle.addr_base.specs.Streams.{Stream}
 use Rattle.addr_cli.specs.Outcome.{EndsWith, Ends, Simulates, ShowsRows, Inspects, Plans, Planned, IsPlannable, RunsTo, HasCauses, IsReady, IsSound, IsComplete, HasCatalogue, HasPlainRows, HasRows, HasScript, IsBadCatalogue, IsBadPlain}

@@ -52,11 +52,13 @@ ServesTo words depot depot_after listen listen_after out out_after status =
     ((ended : Ended) × HasServed words depot depot_after listen listen_after out out_after ended × (status ≡ served_status ended))
     ⊎ IsRefused words depot depot_after listen listen_after out out_after status
 
--- the causes of a status: 14 only where the listener's count of faults rose, 13 only where the sink's did; a fault of the
--- depot has no status here, since it is answered to the one who asked
+-- the causes of a status: 14 only where the listener's count of faults rose, which it does under no other but 13, and 13 exactly
+-- where the sink's rose; a fault of the depot has no status here, since it is answered to the one who asked
 pub record HasServeCauses (listen listen_after : ListenNow) (out out_after : Stream) (status : ℕ) : Type 0 where
   pub net_rose : status ≡ 14 → Rose listen.faults listen_after.faults
+  pub net_kept : status ≢ 14 → status ≢ 13 → listen_after.faults ≡ listen.faults
   pub sink_rose : status ≡ 13 → Rose out.faults out_after.faults
+  pub sink_kept : status ≢ 13 → out_after.faults ≡ out.faults
   pub answered : status ≢ 3
 
 -- words of `serve` are never usage, and other words are nothing else but where the sink failed

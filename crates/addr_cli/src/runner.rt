@@ -15,7 +15,6 @@ use crate::refusal::Refusal;
 use crate::report::report;
 use crate::status::Status;
 use addr_base::{Depot, Sink, Text};
-use addr_script::read_script;
 use addr_simulate::simulate;
 use std::alloc::Global;
 
@@ -59,7 +58,6 @@ fn simulate_files<D: Depot>(
 {
     let locator = read_rows_file(alloc, rows, depot)?;
     let bytes = read_file(alloc, depot, script)?;
-    let script = read_script(alloc, bytes.as_slice())?;
-    let text = simulate(alloc, locator, &script)?;
+    let text = simulate(alloc, locator, bytes.as_slice())?;
     Ok(text)
 }

@@ -12,17 +12,17 @@ use Rattle.addr_base.specs.declared.ids.OpId.{OpId}
 use Rattle.addr_locate.specs.Rows.{Rows, has_sound_deps}
 use Rattle.addr_history.specs.declared.ask.Ask.{Ask}
 use Rattle.addr_history.specs.declared.event.Event.{Event}
-use Rattle.addr_history.specs.declared.event.Event.TheVariants.{Load, Release, Take, Done, Fail, Close}
+use Rattle.addr_history.specs.declared.event.Event.TheVariants.{Load, Acquire, Release, Take, Done, Fail, Close}
 use Rattle.addr_history.specs.Events.{is_load, is_done_of}
 use Rattle.addr_history.specs.Counts.{count_of, loads_of, is_unreleased}
 use Rattle.addr_history.specs.Places.{is_resident, is_fetched_by, bundles_of}
-use Rattle.addr_history.specs.Answers.{load_reply, load_adds, release_adds, done_adds}
+use Rattle.addr_history.specs.Answers.{load_reply, load_adds, acquire_reply, acquire_adds, release_adds, done_adds}
 use Rattle.addr_history.specs.Legal.{IsAnswer, Legal}
 use Rattle.addr_core.specs.Machine.{Machine, images_left, HasImages, ImagesFit}
 use Rattle.addr_core.specs.within.Kept.{IsQuiet, Known, IsJournal}
 use Rattle.addr_history.proofs.Steps.{counts_on, resident_push}
-use Rattle.addr_history.proofs.Legality.{extend, empty}
-use Rattle.addr_history.proofs.CountSteps.{none_resident, count_calm, stays_resident, was_resident, load_stays}
+use Rattle.addr_history.proofs.Legality.{acquire_facts, extend, empty}
+use Rattle.addr_history.proofs.CountSteps.{take_calm, done_calm, fail_calm, close_calm, acquire_calm, left_calm, none_resident, count_calm, stays_resident, was_resident, load_stays}
 use Rattle.addr_history.proofs.Ranges.{same_bundle}
 use Rattle.addr_history.proofs.Owed.{numbers, within_limit}
 use Rattle.addr_core.proofs.Keeping.{left_all, held_left, held_set, fit_left, fit_set}
@@ -49,20 +49,22 @@ module _ (rows : Rows) (limit : ℕ) where
   -- the same bundles are resident after a quiet event
   pub quiet_stays : (h : List Event) → Legal rows limit h → (e : Event) → IsAnswer rows limit h e → IsQuiet rows h e → (b : BundleNo) → is_resident rows h b ≡ true → is_resident rows (h ++ e ∷ []) b ≡ true
   quiet_stays h legal (Load op c k) answer quiet = absurd quiet
-  quiet_stays h legal (Release o c) answer quiet = absurd quiet
-  quiet_stays h legal (Take o c) answer quiet = stays_resident rows limit h (Take o c) legal (λ b. omega (arith, count_calm rows h (Take o c) b (refl, λ p. refl)))
-  quiet_stays h legal (Done o c) answer quiet = stays_resident rows limit h (Done o c) legal (λ b. omega (arith, count_calm rows h (Done o c) b (refl, λ p. refl)))
-  quiet_stays h legal (Fail o c k) answer quiet = stays_resident rows limit h (Fail o c k) legal (λ b. omega (arith, count_calm rows h (Fail o c k) b (refl, λ p. refl)))
-  quiet_stays h legal Close answer quiet = stays_resident rows limit h Close legal (λ b. omega (arith, count_calm rows h Close b (refl, λ p. refl)))
+  quiet_stays h legal (Acquire o c) answer quiet = stays_resident rows limit h (Acquire o c) legal (λ b. omega (arith, count_calm rows h (Acquire o c) b (acquire_calm h o c (acquire_facts rows limit h o c answer).has)))
+  quiet_stays h legal (Release o c) answer quiet = stays_resident rows limit h (Release o c) legal (λ b. omega (arith, count_calm rows h (Release o c) b (left_calm h o c quiet)))
+  quiet_stays h legal (Take o c) answer quiet = stays_resident rows limit h (Take o c) legal (λ b. omega (arith, count_calm rows h (Take o c) b (take_calm h o c)))
+  quiet_stays h legal (Done o c) answer quiet = stays_resident rows limit h (Done o c) legal (λ b. omega (arith, count_calm rows h (Done o c) b (done_calm h o c)))
+  quiet_stays h legal (Fail o c k) answer quiet = stays_resident rows limit h (Fail o c k) legal (λ b. omega (arith, count_calm rows h (Fail o c k) b (fail_calm h o c k)))
+  quiet_stays h legal Close answer quiet = stays_resident rows limit h Close legal (λ b. omega (arith, count_calm rows h Close b (close_calm h)))
 
   pub quiet_was : (h : List Event) → Legal rows limit h → (e : Event) → IsAnswer rows limit h e → IsQuiet rows h e → (b : BundleNo) → is_resident rows (h ++ e ∷ []) b ≡ true → is_resident rows h b ≡ true
   quiet_was h legal (Load op c k) answer quiet = absurd quiet
-  quiet_was h legal (Release o c) answer quiet = absurd quiet
+  quiet_was h legal (Acquire o c) answer quiet = λ b is. was_resident rows limit h (Acquire o c) b refl is
+  quiet_was h legal (Release o c) answer quiet = λ b is. was_resident rows limit h (Release o c) b refl is
   quiet_was h legal (Take o c) answer quiet = λ b is. was_resident rows limit h (Take o c) b refl is
   quiet_was h legal (Done o c) answer quiet = λ b is. elim (cases_Bool (is_done_of b (Done o c))) [
     | inl this ↦
         let same : o ≡ b = same_bundle o b this in
-        let none : count_of rows (h ++ Done o c ∷ []) b ≡ 0 = count_calm rows h (Done o c) b (refl, λ p. refl) ∙ ap (count_of rows h) (sym same) ∙ quiet in
+        let none : count_of rows (h ++ Done o c ∷ []) b ≡ 0 = count_calm rows h (Done o c) b (done_calm h o c) ∙ ap (count_of rows h) (sym same) ∙ quiet in
         absurd (false≢true (sym (ap (ltb 0) none) ∙ (and_parts (is_resident rows h b || is_done_of b (Done o c)) (counts_on rows h (Done o c) b) (sym (resident_push rows h (Done o c) b) ∙ is)).1))
     | inr other ↦ was_resident rows limit h (Done o c) b other is
   ]
@@ -133,7 +135,7 @@ module _ {I : Type 0} (fits : I → ℕ → Digest → Type 0) (rows : Rows) (li
       g = h ++ Done b worker ∷ []
 
       count : (c : BundleNo) → count_of rows g c ≡ count_of rows h c
-      count c = count_calm rows h (Done b worker) c (refl, λ p. refl)
+      count c = count_calm rows h (Done b worker) c (done_calm h b worker)
 
       stays : (c : BundleNo) → is_resident rows h c ≡ true → is_resident rows g c ≡ true
       stays = stays_resident rows limit h (Done b worker) legal (λ c. omega (arith, count c))
@@ -159,7 +161,7 @@ module _ {I : Type 0} (fits : I → ℕ → Digest → Type 0) (rows : Rows) (li
 
   pub kept_images : (h : List Event) (images : List (Option I)) → Legal rows limit h → (b : BundleNo) (worker : ℕ) → IsAnswer rows limit h (Done b worker) → HasImages (machine h images) → images_left rows (h ++ Done b worker ∷ []) images ≡ images
   kept_images h images legal b worker answer held =
-      same_images h (h ++ Done b worker ∷ []) images held (stays_resident rows limit h (Done b worker) legal (λ c. omega (arith, count_calm rows h (Done b worker) c (refl, λ p. refl))))
+      same_images h (h ++ Done b worker ∷ []) images held (stays_resident rows limit h (Done b worker) legal (λ c. omega (arith, count_calm rows h (Done b worker) c (done_calm h b worker))))
 
   -- where the journal grew
   pub journal_push : (ev : Vec Event Global) (im : Vec (Option I) Global) → IsJournal fits rows limit ev im → (e : Event) → IsAnswer rows limit ev.items e → (ev2 : Vec Event Global) → ev2.items ≡ ev.items ++ e ∷ [] → vec_len ev2 ≡ vec_len ev + 1 → vec_capacity ev ≤ vec_capacity ev2 → (im2 : Vec (Option I) Global) → HasImages (machine (ev.items ++ e ∷ []) im2.items) → ImagesFit fits (machine (ev.items ++ e ∷ []) im2.items) → IsJournal fits rows limit ev2 im2
@@ -219,6 +221,9 @@ module _ {I : Type 0} (fits : I → ℕ → Digest → Type 0) (rows : Rows) (li
 pub release_answer : (rows : Rows) (limit : ℕ) (h : List Event) (op : OpId) (caller : ℕ) → is_unreleased h op ≡ true → IsAnswer rows limit h (Release op caller)
 unfolding release_adds
 release_answer rows limit h op caller is = ap (λ t. if t then Release op caller ∷ [] else []) is
+
+pub acquire_answer : (rows : Rows) (limit : ℕ) (h : List Event) (op : OpId) (caller : ℕ) → acquire_reply rows limit h op ≡ Ok tt → IsAnswer rows limit h (Acquire op caller)
+acquire_answer rows limit h op caller is = ap (λ r. acquire_adds r caller op) is
 
 pub done_answer : (rows : Rows) (limit : ℕ) (h : List Event) (b : BundleNo) (worker : ℕ) → is_fetched_by h b worker ≡ true → IsAnswer rows limit h (Done b worker)
 unfolding done_adds

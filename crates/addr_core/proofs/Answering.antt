@@ -1,6 +1,6 @@
 -- Answers read off what is kept.
-use Rattle.std.proofs.Common.{◌≡◌, ℕ, Bool, true, false, not, List, length, Option, Some, None, Result, Ok, Err, is_some, slice_get, refl, sym, ◌∙◌, ap, arith, if◌then◌else◌}
-use Rattle.std.proofs.lemmas.Bool.{lt-ltb, le-ltb}
+use Rattle.std.proofs.Common.{◌≡◌, ℕ, zero, suc, ltb, eqb, ◌<◌, Bool, true, false, not, List, length, Option, Some, None, Result, Ok, Err, is_some, slice_get, refl, sym, ◌∙◌, ap, arith, if◌then◌else◌}
+use Rattle.std.proofs.lemmas.Bool.{lt-ltb, le-ltb, eqb-true, false≢true}
 use Rattle.std.specs.Option.{option_map_or}
 use Rattle.std.specs.Prelude.{unwrap_or, ◌==◌}
 use Rattle.addr_base.specs.declared.ids.BundleNo.{BundleNo}
@@ -14,18 +14,23 @@ use Rattle.addr_history.specs.declared.answers.OpStatus.TheVariants.{Pending, Re
 use Rattle.addr_history.specs.declared.answers.Next.{Next}
 use Rattle.addr_history.specs.declared.answers.Next.TheVariants.{Bundle, Idle, End}
 use Rattle.addr_history.specs.declared.event.Event.{Event}
-use Rattle.addr_history.specs.Counts.{is_closed, is_unreleased, count_of}
+use Rattle.addr_history.specs.Counts.{is_closed, is_unreleased, references_of, count_of}
 use Rattle.addr_history.specs.Places.{is_resident, is_fetched, is_queued, state_of}
 use Rattle.addr_history.specs.Status.{status_of}
 use Rattle.addr_history.specs.Answers.{take_reply, count_reply, status_reply}
 use Rattle.addr_history.specs.Legal.{Legal}
 use Rattle.addr_queue.specs.Queue.{Ordered}
-use Rattle.addr_core.specs.declared.slots.Slot.{Slot}
+use Rattle.addr_queue.specs.declared.slots.Slot.{Slot}
 use Rattle.addr_core.specs.declared.courses.Course.{Course}
 use Rattle.addr_core.specs.within.Kept.{Holds, IsSlot}
-use Rattle.addr_core.proofs.CourseSteps.{status_is, unreleased_is, not_unreleased}
-use Rattle.addr_core.proofs.Changing.{within_from, past_from}
+use Rattle.addr_history.proofs.Legality.{unreleased_is}
+use Rattle.addr_core.proofs.CourseSteps.{status_is, unreleased_at, no_references, not_unreleased}
+use Rattle.addr_queue.proofs.Changing.{within_from, past_from}
 use Rattle.addr_core.specs.declared.wanted.Wanted.{Wanted}
+
+not_zero : (n : ℕ) → eqb n 0 ≡ false → ltb 0 n ≡ true
+not_zero zero is = absurd (false≢true (sym is))
+not_zero (suc n) is = lt-ltb 0 (suc n) (omega arith)
 
 module _ (rows : Rows) (limit : ℕ) (h : List Event) (wanted : List Wanted) (slots : List Slot) (courses : List Course) (lists : List (List ℕ)) (order : Ordered) (fetched opens : ℕ) (closed : Bool) (holds : Holds rows h wanted slots courses lists order fetched opens closed) where
   pub next_some : (b : BundleNo) → Some b ≡ slice_get order.bundles 0 → Bundle b ≡ take_reply rows h
@@ -59,27 +64,32 @@ module _ (rows : Rows) (limit : ℕ) (h : List Event) (wanted : List Wanted) (sl
   no_handle = Err (record {})
 
   abbrev pub course_status : Course → Result OpStatus NoHandle
-  course_status c = if c.released then no_handle else Ok (unwrap_or c.failed (if c.missing == 0 then Ready else Pending))
+  course_status c = if c.references == 0 then no_handle else Ok (unwrap_or c.failed (if c.missing == 0 then Ready else Pending))
 
   pub status_some : Legal rows limit h → (op : OpId) (c : Course) → slice_get courses op.0 ≡ Some c → course_status c ≡ status_reply rows h op
   unfolding status_reply
-  status_some legal op c at = by c.released refl
+  status_some legal op c at = by (eqb c.references 0) refl
     where
-      now : is_unreleased h op ≡ not c.released
-      now = unreleased_is rows limit h legal courses lists holds.are_courses op c at (within_from courses op.0 c at)
+      now : is_unreleased h op ≡ ltb 0 c.references
+      now = unreleased_at rows h courses lists holds.are_courses op c at
 
-      by : (t : Bool) → c.released ≡ t → (if t then no_handle else Ok (unwrap_or c.failed (if c.missing == 0 then Ready else Pending))) ≡ (if is_unreleased h op then Ok (status_of rows h op) else no_handle)
-      by true is = sym (ap (λ t. let r : Result OpStatus NoHandle = if t then Ok (status_of rows h op) else no_handle in r) (now ∙ ap not is))
+      by : (t : Bool) → eqb c.references 0 ≡ t → (if t then no_handle else Ok (unwrap_or c.failed (if c.missing == 0 then Ready else Pending))) ≡ (if is_unreleased h op then Ok (status_of rows h op) else no_handle)
+      by true is = sym (ap (λ t. let r : Result OpStatus NoHandle = if t then Ok (status_of rows h op) else no_handle in r) (now ∙ ap (ltb 0) (eqb-true c.references 0 is)))
       by false is =
-          ap (λ s. let r : Result OpStatus NoHandle = Ok s in r) (status_is rows limit h courses lists holds.are_courses op c at (now ∙ ap not is))
-          ∙ sym (ap (λ t. let r : Result OpStatus NoHandle = if t then Ok (status_of rows h op) else no_handle in r) (now ∙ ap not is))
+          let open_now : is_unreleased h op ≡ true = now ∙ not_zero c.references is in
+          ap (λ s. let r : Result OpStatus NoHandle = Ok s in r) (status_is rows limit h courses lists holds.are_courses op c at open_now)
+          ∙ sym (ap (λ t. let r : Result OpStatus NoHandle = if t then Ok (status_of rows h op) else no_handle in r) open_now)
 
   pub status_none : Legal rows limit h → (op : OpId) → slice_get courses op.0 ≡ None → no_handle ≡ status_reply rows h op
   unfolding status_reply
   status_none legal op none = sym (ap (λ t. let r : Result OpStatus NoHandle = if t then Ok (status_of rows h op) else no_handle in r) (not_unreleased rows limit h legal courses lists holds.are_courses op (past_from courses op.0 none)))
 
-  pub unreleased_some : Legal rows limit h → (op : OpId) (c : Course) → slice_get courses op.0 ≡ Some c → not c.released ≡ is_unreleased h op
-  unreleased_some legal op c at = sym (unreleased_is rows limit h legal courses lists holds.are_courses op c at (within_from courses op.0 c at))
+  pub references_some : (op : OpId) (c : Course) → slice_get courses op.0 ≡ Some c → c.references ≡ references_of h op
+  references_some op c at = holds.are_courses.references op c at
 
-  pub unreleased_none : Legal rows limit h → (op : OpId) → slice_get courses op.0 ≡ None → false ≡ is_unreleased h op
-  unreleased_none legal op none = sym (not_unreleased rows limit h legal courses lists holds.are_courses op (past_from courses op.0 none))
+  pub references_past : Legal rows limit h → (op : OpId) → slice_get courses op.0 ≡ None → 0 ≡ references_of h op
+  references_past legal op none = sym (no_references rows limit h legal courses lists holds.are_courses op (past_from courses op.0 none))
+
+-- who has more than one reference is unreleased
+pub open_more : (h : List Event) (op : OpId) → 1 < references_of h op → is_unreleased h op ≡ true
+open_more h op more = unreleased_is h op ∙ lt-ltb 0 (references_of h op) (omega (arith, more))

@@ -12,12 +12,12 @@ use Rattle.addr_history.specs.Places.{is_resident, bundles_of}
 use Rattle.addr_history.proofs.Owed.{numbers}
 use Rattle.addr_core.specs.Machine.{images_left}
 use Rattle.addr_core.proofs.Keeping.{left_from}
-use Rattle.addr_core.specs.within.Changes.{change_each, cleared_each}
-use Rattle.addr_core.proofs.Changing.{length_cleared}
-use Rattle.addr_core.specs.declared.slots.Slot.{Slot}
+use Rattle.addr_queue.specs.Changes.{change_each, cleared_each}
+use Rattle.addr_queue.proofs.Changing.{length_cleared}
+use Rattle.addr_queue.specs.declared.slots.Slot.{Slot}
 use Rattle.addr_core.specs.within.Kept.{AreSlots}
-use Rattle.addr_core.specs.within.Slots.{passes, is_missing, let_go}
-use Rattle.addr_core.specs.within.Changes.{cleared_each}
+use Rattle.addr_queue.specs.Slots.{passes, is_missing, let_go}
+use Rattle.addr_queue.specs.Changes.{cleared_each}
 use Rattle.addr_core.proofs.Nows.{slot_at, missing_at}
 use Rattle.addr_core.proofs.SlotSteps.{changed_once}
 

@@ -1,5 +1,5 @@
 -- What each event does to the courses of operations, and to the lists of those that wait.
-use Rattle.std.proofs.Common.{◌≡◌, ◌⊎◌, inl, inr, ℕ, ◌+◌, ◌-◌, ◌≤◌, ◌<◌, zero, suc, Bool, true, false, ◌&&◌, ◌||◌, not, cond, eqb, List, [], ◌∷◌, ◌++◌, length, Option, Some, None, is_some, slice_get, set, refl, sym, ◌∙◌, ap, arith, if◌then◌else◌}
+use Rattle.std.proofs.Common.{◌≡◌, ◌⊎◌, inl, inr, ℕ, ◌+◌, ◌-◌, ◌≤◌, ◌<◌, zero, suc, Bool, true, false, ◌&&◌, ◌||◌, not, cond, eqb, ltb, min, ◌^◌, List, [], ◌∷◌, ◌++◌, length, Option, Some, None, is_some, slice_get, set, refl, sym, ◌∙◌, ap, arith, if◌then◌else◌}
 use Rattle.std.proofs.lemmas.Bool.{false≢true, eq-eqb, ne_eqb, cases_eq, cases_lt, cases_Bool}
 use Rattle.std.proofs.lemmas.List.{length-append}
 use Rattle.std.specs.List.{list_any, list_all, count_by}
@@ -13,23 +13,22 @@ use Rattle.addr_history.specs.declared.ask.Ask.{Ask}
 use Rattle.addr_history.specs.declared.answers.OpStatus.{OpStatus}
 use Rattle.addr_history.specs.declared.answers.OpStatus.TheVariants.{Pending, Ready, Failed}
 use Rattle.addr_history.specs.declared.event.Event.{Event}
-use Rattle.addr_history.specs.declared.event.Event.TheVariants.{Load, Release, Done, Fail}
-use Rattle.addr_history.specs.Events.{is_in, is_load, is_release_of, is_done_of, needs_of}
-use Rattle.addr_history.specs.Counts.{has_release, is_unreleased, count_of, needs_of_op, loads_of}
+use Rattle.addr_history.specs.declared.event.Event.TheVariants.{Load, Acquire, Release, Done, Fail}
+use Rattle.addr_history.specs.Events.{is_in, is_load, is_done_of, needs_of}
+use Rattle.addr_history.specs.Counts.{references_of, is_unreleased, count_of, needs_of_op, loads_of}
 use Rattle.addr_history.specs.Places.{is_resident}
 use Rattle.addr_history.specs.Status.{first_failure, status_of}
 use Rattle.addr_history.specs.Legal.{IsAnswer, Legal}
 use Rattle.addr_history.proofs.Points.{and-true, or-false}
 use Rattle.addr_history.proofs.Ranges.{fetched_by_some}
-use Rattle.addr_history.proofs.Legality.{load_facts, fail_facts, extend, prefix, has_release_push, unreleased_parts, load_below, no_load_past, no_release_past, loads_push}
-use Rattle.addr_history.proofs.Counting.{one_if, count-cons, count_push}
-use Rattle.addr_history.proofs.CountSteps.{below_loaded, same_resident}
-use Rattle.addr_core.specs.within.Changes.{change, change_each, times}
+use Rattle.addr_history.proofs.Legality.{load_facts, acquire_facts, fail_facts, extend, prefix, unreleased_is, unreleased_parts, load_below, no_load_past, loads_push}
+use Rattle.addr_history.proofs.Counting.{one_if, count-cons, count_push, references_none, references_le, references_kept, references_given, references_taken, references_first}
+use Rattle.addr_history.proofs.CountSteps.{no_load_of, same_resident}
+use Rattle.addr_queue.specs.Changes.{change, change_each, times}
 use Rattle.addr_core.specs.declared.courses.Course.{Course}
 use Rattle.addr_core.specs.within.Kept.{failure_of, missing_of, lacks, AreCourses}
-use Rattle.addr_core.specs.within.Courses.{times_in, woken, failed_by, given_back}
-use Rattle.addr_core.proofs.Changing.{get_set_same, get_set_other, length_change, length_change_each, change_same, change_other, change_each_at, was_there, times_keep, get_left, get_end}
-use Rattle.addr_core.proofs.WantedSteps.{no_load_of}
+use Rattle.addr_core.specs.within.Courses.{times_in, woken, failed_by, given_back, acquired}
+use Rattle.addr_queue.proofs.Changing.{get_set_same, get_set_other, length_change, length_change_each, change_same, change_other, change_each_at, was_there, times_keep, get_left, get_end}
 use Rattle.addr_history.proofs.StatusSteps.{op_needs_once, unreleased_before, failure_push, missing_push, waits_push, count_within, count_done, apart, needed_counted, needs_new, since_new}
 
 and_none : (t : Bool) → (t && false) ≡ false
@@ -37,10 +36,25 @@ and_none true = refl
 and_none false = refl
 
 module _ (rows : Rows) (limit : ℕ) where
-  -- an event that is no Load, where no unreleased operation's course changes
+  -- an operation's course stood there, up to its references
+  abbrev pub Alike : List Course → OpId → Course → Type 0
+  Alike courses op c = (d : Course) × ((slice_get courses op.0 ≡ Some d) × ((c.failed ≡ d.failed) × (c.missing ≡ d.missing)))
+
+  pub alike_same : (courses : List Course) (op : OpId) (c : Course) → slice_get courses op.0 ≡ Some c → Alike courses op c
+  alike_same courses op c at = (c, (at, (refl, refl)))
+
+  pub alike_changed : (f : Course → Course) → ((c : Course) → (f c).failed ≡ c.failed) → ((c : Course) → (f c).missing ≡ c.missing) → (o : OpId) (courses : List Course) (op : OpId) (c : Course) → slice_get (change f o.0 courses) op.0 ≡ Some c → Alike courses op c
+  alike_changed f failed missing o courses op c at = elim (cases_eq op.0 o.0) [
+    | inl same ↦
+        let before = was_there f (slice_get courses o.0) c (sym (change_same f o.0 courses) ∙ ap (slice_get (change f o.0 courses)) (sym same) ∙ at) in
+        (before.0, (ap (slice_get courses) same ∙ before.1.0, (ap (λ (d : Course). d.failed) (sym before.1.1) ∙ failed before.0, ap (λ (d : Course). d.missing) (sym before.1.1) ∙ missing before.0)))
+    | inr other ↦ alike_same courses op c (sym (change_other f o.0 op.0 courses other) ∙ at)
+  ]
+
+  -- an event that is no Load, where courses change in their references alone
   module _ (h : List Event) (e : Event) (legal : Legal rows limit (h ++ e ∷ [])) (courses : List Course) (waits : List (List ℕ)) (are : AreCourses rows h courses waits) (other : is_load e ≡ false) where
     was : (op : OpId) → is_unreleased (h ++ e ∷ []) op ≡ true → is_unreleased h op ≡ true
-    was op now = unreleased_before rows limit h e op (no_load_of e other op) now
+    was op now = unreleased_before rows limit h e legal op (no_load_of op e other) now
 
     same_loads : loads_of (h ++ e ∷ []) ≡ loads_of h
     same_loads = let none = ap one_if other in omega (arith, loads_push h e, none)
@@ -48,13 +62,13 @@ module _ (rows : Rows) (limit : ℕ) where
     loads_kept : (n : ℕ) → loads_of (h ++ e ∷ []) ≤ n → loads_of h ≤ n
     loads_kept n le = omega (arith, same_loads)
 
-    -- courses that stay for each operation that isn't released, where no fetch ends that one of them waits for
-    pub quiet_courses : (courses2 : List Course) → length courses2 ≡ length courses → ((op : OpId) (c : Course) → slice_get courses2 op.0 ≡ Some c → c.released ≡ has_release (h ++ e ∷ []) op) → ((op : OpId) → is_unreleased (h ++ e ∷ []) op ≡ true → slice_get courses2 op.0 ≡ slice_get courses op.0) → ((op : OpId) → first_failure (needs_of_op rows h op) (e ∷ []) ≡ None) → ((op : OpId) (b : BundleNo) → is_unreleased h op ≡ true → is_in b (needs_of_op rows h op) ≡ true → is_done_of b e ≡ false) → AreCourses rows (h ++ e ∷ []) courses2 waits
-    quiet_courses courses2 long releases same fails quiet = record {
+    -- courses that stay but for their references, where no fetch ends that one of them waits for
+    pub quiet_courses : (courses2 : List Course) → length courses2 ≡ length courses → ((op : OpId) (c : Course) → slice_get courses2 op.0 ≡ Some c → c.references ≡ references_of (h ++ e ∷ []) op) → ((op : OpId) (c : Course) → slice_get courses2 op.0 ≡ Some c → Alike courses op c) → ((op : OpId) → first_failure (needs_of_op rows h op) (e ∷ []) ≡ None) → ((op : OpId) (b : BundleNo) → is_unreleased h op ≡ true → is_in b (needs_of_op rows h op) ≡ true → is_done_of b e ≡ false) → AreCourses rows (h ++ e ∷ []) courses2 waits
+    quiet_courses courses2 long refs same fails quiet = record {
       many = long ∙ are.many ∙ sym same_loads;
-      released = releases;
-      failed = λ op c at now. are.failed op c (sym (same op now) ∙ at) (was op now) ∙ sym (failure op now);
-      missing = λ op c at now none. are.missing op c (sym (same op now) ∙ at) (was op now) (sym (failure op now) ∙ none) ∙ sym (missing op now);
+      references = refs;
+      failed = λ op c at now. let d = same op c at in d.1.1.0 ∙ are.failed op d.0 d.1.0 (was op now) ∙ sym (failure op now);
+      missing = λ op c at now none. let d = same op c at in d.1.1.1 ∙ are.missing op d.0 d.1.0 (was op now) (sym (failure op now) ∙ none) ∙ sym (missing op now);
       waiting = λ op b ws at now none. are.waiting op b ws at (was op now) (sym (failure op now) ∙ none) ∙ ap one_if (sym (waits_same op b now));
       known = λ b ws at n le. are.known b ws at n (loads_kept n le);
     }
@@ -85,9 +99,6 @@ module _ (rows : Rows) (limit : ℕ) where
     | inr other ↦ inr (other, sym (get_set_other waits n m [] other) ∙ at)
   ]
 
-  pub same_release : (h : List Event) (e : Event) (op : OpId) → is_release_of op e ≡ false → has_release (h ++ e ∷ []) op ≡ has_release h op
-  same_release h e op other = has_release_push h e op ∙ ap (λ t. has_release h op || t) other ∙ or-false (has_release h op)
-
   no_more : (o : Option OpStatus) → option_or o None ≡ o
   no_more None = refl
   no_more (Some s) = refl
@@ -98,7 +109,7 @@ module _ (rows : Rows) (limit : ℕ) where
     came = Done o w
 
     done_was : (op : OpId) → is_unreleased (h ++ Done o w ∷ []) op ≡ true → is_unreleased h op ≡ true
-    done_was op now = unreleased_before rows limit h (Done o w) op refl now
+    done_was op now = unreleased_before rows limit h (Done o w) legal op refl now
 
     woken_once : (t : Bool) (c : Course) → (times woken (one_if t) c).missing ≡ c.missing - one_if t
     woken_once true c = refl
@@ -107,9 +118,9 @@ module _ (rows : Rows) (limit : ℕ) where
     pub done_courses : AreCourses rows (h ++ Done o w ∷ []) (change_each woken ws courses) (set waits o.0 [])
     done_courses = record {
       many = length_change_each woken ws courses ∙ are.many ∙ sym (same_loads h (Done o w) legal courses waits are refl);
-      released = λ op c at.
+      references = λ op c at.
           let before = was_there (times woken (times_in op.0 ws)) (slice_get courses op.0) c (sym (change_each_at woken ws courses op.0) ∙ at) in
-          ap (λ (d : Course). d.released) (sym before.1.1) ∙ times_keep woken (λ (d : Course). d.released) (λ d. refl) (times_in op.0 ws) before.0 ∙ are.released op before.0 before.1.0 ∙ sym (same_release h (Done o w) op refl);
+          ap (λ (d : Course). d.references) (sym before.1.1) ∙ times_keep woken (λ (d : Course). d.references) (λ d. refl) (times_in op.0 ws) before.0 ∙ are.references op before.0 before.1.0 ∙ sym (references_kept h (Done o w) op refl refl refl);
       failed = λ op c at now.
           let before = was_there (times woken (times_in op.0 ws)) (slice_get courses op.0) c (sym (change_each_at woken ws courses op.0) ∙ at) in
           ap (λ (d : Course). d.failed) (sym before.1.1) ∙ times_keep woken (λ (d : Course). d.failed) (λ d. refl) (times_in op.0 ws) before.0 ∙ are.failed op before.0 before.1.0 (done_was op now) ∙ sym (failure op now);
@@ -144,7 +155,7 @@ module _ (rows : Rows) (limit : ℕ) where
   -- a bundle could not be brought
   module _ (h : List Event) (o : BundleNo) (w : ℕ) (k : Cause) (legal : Legal rows limit (h ++ Fail o w k ∷ [])) (answer : IsAnswer rows limit h (Fail o w k)) (courses : List Course) (waits : List (List ℕ)) (are : AreCourses rows h courses waits) (ws : List ℕ) (there : slice_get waits o.0 ≡ Some ws) where
     fail_was : (op : OpId) → is_unreleased (h ++ Fail o w k ∷ []) op ≡ true → is_unreleased h op ≡ true
-    fail_was op now = unreleased_before rows limit h (Fail o w k) op refl now
+    fail_was op now = unreleased_before rows limit h (Fail o w k) legal op refl now
 
     abbrev by_this : Course → Course
     by_this = failed_by (Failed o k)
@@ -161,24 +172,24 @@ module _ (rows : Rows) (limit : ℕ) where
     stays_failed : (s : OpStatus) (n : ℕ) (c : Course) → c.failed ≡ Some s → times by_this n c ≡ c
     stays_failed s zero c is = refl
     stays_failed s (suc n) c is =
-        let same : by_this c ≡ c = ap (λ (f : Option OpStatus). cond (is_some f) c (record { missing = c.missing; failed = Some (Failed o k); released = c.released })) is in
+        let same : by_this c ≡ c = ap (λ (f : Option OpStatus). cond (is_some f) c (record { missing = c.missing; failed = Some (Failed o k); references = c.references })) is in
         ap (times by_this n) same ∙ stays_failed s n c is
 
     fails_once : (t : Bool) (c : Course) → c.failed ≡ None → (times by_this (one_if t) c).failed ≡ cond t (Some (Failed o k)) None
-    fails_once true c is = ap (λ (f : Option OpStatus). (let d : Course = cond (is_some f) c (record { missing = c.missing; failed = Some (Failed o k); released = c.released }) in d).failed) is
+    fails_once true c is = ap (λ (f : Option OpStatus). (let d : Course = cond (is_some f) c (record { missing = c.missing; failed = Some (Failed o k); references = c.references }) in d).failed) is
     fails_once false c is = is
 
-    keeps_released : (c : Course) → (by_this c).released ≡ c.released
-    keeps_released c = at (is_some c.failed)
+    keeps_references : (c : Course) → (by_this c).references ≡ c.references
+    keeps_references c = at (is_some c.failed)
       where
-        at : (t : Bool) → (let d : Course = cond t c (record { missing = c.missing; failed = Some (Failed o k); released = c.released }) in d).released ≡ c.released
+        at : (t : Bool) → (let d : Course = cond t c (record { missing = c.missing; failed = Some (Failed o k); references = c.references }) in d).references ≡ c.references
         at true = refl
         at false = refl
 
     keeps_missing : (c : Course) → (by_this c).missing ≡ c.missing
     keeps_missing c = at (is_some c.failed)
       where
-        at : (t : Bool) → (let d : Course = cond t c (record { missing = c.missing; failed = Some (Failed o k); released = c.released }) in d).missing ≡ c.missing
+        at : (t : Bool) → (let d : Course = cond t c (record { missing = c.missing; failed = Some (Failed o k); references = c.references }) in d).missing ≡ c.missing
         at true = refl
         at false = refl
 
@@ -194,9 +205,9 @@ module _ (rows : Rows) (limit : ℕ) where
     pub fail_courses : AreCourses rows (h ++ Fail o w k ∷ []) (change_each by_this ws courses) (set waits o.0 [])
     fail_courses = record {
       many = length_change_each by_this ws courses ∙ are.many ∙ sym (same_loads h (Fail o w k) legal courses waits are refl);
-      released = λ op c at.
+      references = λ op c at.
           let before = was_there (times by_this (times_in op.0 ws)) (slice_get courses op.0) c (sym (change_each_at by_this ws courses op.0) ∙ at) in
-          ap (λ (d : Course). d.released) (sym before.1.1) ∙ times_keep by_this (λ (d : Course). d.released) keeps_released (times_in op.0 ws) before.0 ∙ are.released op before.0 before.1.0 ∙ sym (same_release h (Fail o w k) op refl);
+          ap (λ (d : Course). d.references) (sym before.1.1) ∙ times_keep by_this (λ (d : Course). d.references) keeps_references (times_in op.0 ws) before.0 ∙ are.references op before.0 before.1.0 ∙ sym (references_kept h (Fail o w k) op refl refl refl);
       failed = λ op c at now.
           let before = was_there (times by_this (times_in op.0 ws)) (slice_get courses op.0) c (sym (change_each_at by_this ws courses op.0) ∙ at) in
           ap (λ (d : Course). d.failed) (sym before.1.1) ∙ by op before.0 now (are.failed op before.0 before.1.0 (fail_was op now)) (failure_of rows h op) refl ∙ sym (fail_failure op now);
@@ -226,29 +237,49 @@ module _ (rows : Rows) (limit : ℕ) where
             ap (λ (d : Course). d.failed) (stays_failed s (times_in op.0 ws) c (has ∙ is)) ∙ has ∙ is
             ∙ sym (ap (λ (f : Option OpStatus). option_or f (cond (is_in o (needs_of_op rows h op)) (Some (Failed o k)) None)) is)
 
-  -- an operation is released
+  -- an operation has one reference less, or one more
   pub release_courses : (h : List Event) (o : OpId) (caller : ℕ) → Legal rows limit (h ++ Release o caller ∷ []) → (courses : List Course) (waits : List (List ℕ)) → AreCourses rows h courses waits → AreCourses rows (h ++ Release o caller ∷ []) (change given_back o.0 courses) waits
   release_courses h o caller legal courses waits are =
       quiet_courses h (Release o caller) legal courses waits are refl (change given_back o.0 courses) (length_change given_back o.0 courses)
       (λ op c at. elim (cases_eq op.0 o.0) [
         | inl same ↦
             let before = was_there given_back (slice_get courses o.0) c (sym (change_same given_back o.0 courses) ∙ ap (slice_get (change given_back o.0 courses)) (sym same) ∙ at) in
-            ap (λ (d : Course). d.released) (sym before.1.1) ∙ sym (has_release_push h (Release o caller) op ∙ ap (λ t. has_release h op || t) (eq-eqb o.0 op.0 (sym same)) ∙ or_true (has_release h op))
-        | inr other ↦ are.released op c (sym (change_other given_back o.0 op.0 courses other) ∙ at) ∙ sym (same_release h (Release o caller) op (ne_eqb o.0 op.0 (λ same. other (sym same))))
+            let had : before.0.references ≡ references_of h op = are.references op before.0 (ap (slice_get courses) same ∙ before.1.0) in
+            ap (λ (d : Course). d.references) (sym before.1.1) ∙ ap (λ n. n - 1) had ∙ sym (references_given h o caller op ∙ ap (λ t. references_of h op - one_if t) (eq-eqb op.0 o.0 same))
+        | inr other ↦
+            are.references op c (sym (change_other given_back o.0 op.0 courses other) ∙ at)
+            ∙ sym (references_given h o caller op ∙ ap (λ t. references_of h op - one_if t) (ne_eqb op.0 o.0 other) ∙ (let same : references_of h op - 0 ≡ references_of h op = omega arith in same))
       ])
-      (λ op now. change_other given_back o.0 op.0 courses (λ same. false≢true (sym (unreleased_parts (h ++ Release o caller ∷ []) op now).1 ∙ (has_release_push h (Release o caller) op ∙ ap (λ t. has_release h op || t) (eq-eqb o.0 op.0 (sym same)) ∙ or_true (has_release h op)))))
+      (alike_changed given_back (λ c. refl) (λ c. refl) o courses)
+      (λ op. refl)
+      (λ op b was asked. refl)
+
+  pub acquire_courses : (h : List Event) (o : OpId) (caller : ℕ) → length h ≤ 1000000 → Legal rows limit (h ++ Acquire o caller ∷ []) → (courses : List Course) (waits : List (List ℕ)) → AreCourses rows h courses waits → AreCourses rows (h ++ Acquire o caller ∷ []) (change acquired o.0 courses) waits
+  acquire_courses h o caller short legal courses waits are =
+      quiet_courses h (Acquire o caller) legal courses waits are refl (change acquired o.0 courses) (length_change acquired o.0 courses)
+      (λ op c at. elim (cases_eq op.0 o.0) [
+        | inl same ↦
+            let before = was_there acquired (slice_get courses o.0) c (sym (change_same acquired o.0 courses) ∙ ap (slice_get (change acquired o.0 courses)) (sym same) ∙ at) in
+            let had : before.0.references ≡ references_of h op = are.references op before.0 (ap (slice_get courses) same ∙ before.1.0) in
+            let more : references_of (h ++ Acquire o caller ∷ []) op ≡ references_of h op + 1 = taken op ∙ ap (λ t. references_of h op + one_if t) (eq-eqb op.0 o.0 same) in
+            let small : references_of h op ≤ length h + 1 = references_le h op in
+            ap (λ (d : Course). d.references) (sym before.1.1) ∙ (let now : min (before.0.references + 1) (2 ^ 32 - 1) ≡ references_of (h ++ Acquire o caller ∷ []) op = omega (arith, had, more, small, short) in now)
+        | inr other ↦
+            are.references op c (sym (change_other acquired o.0 op.0 courses other) ∙ at)
+            ∙ sym (taken op ∙ ap (λ t. references_of h op + one_if t) (ne_eqb op.0 o.0 other) ∙ (let same : references_of h op + 0 ≡ references_of h op = omega arith in same))
+      ])
+      (alike_changed acquired (λ c. refl) (λ c. refl) o courses)
       (λ op. refl)
       (λ op b was asked. refl)
     where
-      or_true : (t : Bool) → (t || true) ≡ true
-      or_true true = refl
-      or_true false = refl
+      taken : (op : OpId) → references_of (h ++ Acquire o caller ∷ []) op ≡ references_of h op + one_if (eqb op.0 o.0)
+      taken op = let f = acquire_facts rows limit h o caller (legal.answers h (Acquire o caller) [] refl) in references_taken h o caller f.has op
 
   -- lists of bundles that no operation needs are given up
   pub forgotten_courses : (h : List Event) → Legal rows limit h → (courses : List Course) (waits waits2 : List (List ℕ)) → AreCourses rows h courses waits → ((b : BundleNo) (ws : List ℕ) → slice_get waits2 b.0 ≡ Some ws → ((ws ≡ []) × (count_of rows h b ≡ 0)) ⊎ (slice_get waits b.0 ≡ Some ws)) → AreCourses rows h courses waits2
   forgotten_courses h legal courses waits waits2 are forgets = record {
     many = are.many;
-    released = are.released;
+    references = are.references;
     failed = are.failed;
     missing = are.missing;
     waiting = λ op b ws at now none. elim (forgets b ws at) [
@@ -279,7 +310,7 @@ module _ (rows : Rows) (limit : ℕ) where
     loads_more = loads_push h (Load o caller ask)
 
     abbrev pub opened : Course
-    opened = record { missing = count_by (λ b. not (is_resident rows h b)) (needs_of rows ask); failed = None; released = false }
+    opened = record { missing = count_by (λ b. not (is_resident rows h b)) (needs_of rows ask); failed = None; references = 1 }
 
     abbrev joins : BundleNo → Bool
     joins b = is_in b (needs_of rows ask) && not (is_resident rows h b)
@@ -301,9 +332,9 @@ module _ (rows : Rows) (limit : ℕ) where
     pub load_courses : (courses : List Course) (waits waits2 : List (List ℕ)) → AreCourses rows h courses waits → IsJoined waits waits2 → AreCourses rows (h ++ Load o caller ask ∷ []) (courses ++ opened ∷ []) waits2
     load_courses courses waits waits2 are joined = record {
       many = omega (arith, length-append courses (opened ∷ []), are.many, loads_more);
-      released = λ op c at. elim (which op c at) [
-        | inl old ↦ are.released op c old.1 ∙ sym (same_release h (Load o caller ask) op refl)
-        | inr new ↦ ap (λ (d : Course). d.released) new.1 ∙ sym (same_release h (Load o caller ask) op refl ∙ no_release_past rows limit h legal op (omega (arith, number, ap (λ (p : OpId). p.0) new.0)))
+      references = λ op c at. elim (which op c at) [
+        | inl old ↦ are.references op c old.1 ∙ sym (references_kept h (Load o caller ask) op (ne_eqb o.0 op.0 (λ same. omega (arith, number, old.0))) refl refl)
+        | inr new ↦ ap (λ (d : Course). d.references) new.1 ∙ sym (ap (references_of (h ++ Load o caller ask ∷ [])) new.0 ∙ references_first rows limit h legal o caller ask answer)
       ];
       failed = λ op c at now. elim (which op c at) [
         | inl old ↦ are.failed op c old.1 (was op old.0 now) ∙ sym (failure op old.0 now)
@@ -346,10 +377,10 @@ module _ (rows : Rows) (limit : ℕ) where
         ]
 
         was : (op : OpId) → op.0 < loads_of h → is_unreleased (h ++ Load o caller ask ∷ []) op ≡ true → is_unreleased h op ≡ true
-        was op lt now = unreleased_before rows limit h (Load o caller ask) op (ne_eqb o.0 op.0 (λ same. omega (arith, number))) now
+        was op lt now = unreleased_before rows limit h (Load o caller ask) legal_load op (ne_eqb o.0 op.0 (λ same. omega (arith, number))) now
 
         loaded_before : (op : OpId) → (op.0 ≡ o.0 → ⊥) → is_unreleased (h ++ Load o caller ask ∷ []) op ≡ true → op.0 < loads_of h
-        loaded_before op other now = load_below rows limit h legal op (unreleased_parts h op (unreleased_before rows limit h (Load o caller ask) op (ne_eqb o.0 op.0 (λ same. other (sym same))) now)).0
+        loaded_before op other now = load_below rows limit h legal op (unreleased_parts h op (unreleased_before rows limit h (Load o caller ask) legal_load op (ne_eqb o.0 op.0 (λ same. other (sym same))) now)).0
 
         failure : (op : OpId) → op.0 < loads_of h → is_unreleased (h ++ Load o caller ask ∷ []) op ≡ true → failure_of rows (h ++ Load o caller ask ∷ []) op ≡ failure_of rows h op
         failure op lt now = failure_push rows limit h (Load o caller ask) legal_load op now (was op lt now) ∙ no_more (failure_of rows h op)
@@ -380,11 +411,11 @@ status_is rows limit h courses waits are op c at now = ap (λ (f : Option OpStat
     by None is = ap (λ t. unwrap_or (failure_of rows h op) (if t then Ready else Pending)) (ap (λ n. eqb n 0) (are.missing op c at now is) ∙ none_missing (is_resident rows h) (needs_of_op rows h op))
     by (Some s) is = ap (λ (f : Option OpStatus). unwrap_or f (if eqb c.missing 0 then Ready else Pending)) is ∙ sym (ap (λ (f : Option OpStatus). unwrap_or f (if list_all (is_resident rows h) (needs_of_op rows h op) then Ready else Pending)) is)
 
-pub unreleased_is : (rows : Rows) (limit : ℕ) (h : List Event) → Legal rows limit h → (courses : List Course) (waits : List (List ℕ)) → AreCourses rows h courses waits → (op : OpId) (c : Course) → slice_get courses op.0 ≡ Some c → op.0 < length courses → is_unreleased h op ≡ not c.released
-unfolding is_unreleased
-unreleased_is rows limit h legal courses waits are op c at lt =
-    ap (λ t. t && not (has_release h op)) (below_loaded rows limit h legal op (omega (arith, are.many))) ∙ ap not (sym (are.released op c at))
+pub unreleased_at : (rows : Rows) (h : List Event) (courses : List Course) (waits : List (List ℕ)) → AreCourses rows h courses waits → (op : OpId) (c : Course) → slice_get courses op.0 ≡ Some c → is_unreleased h op ≡ ltb 0 c.references
+unreleased_at rows h courses waits are op c at = unreleased_is h op ∙ ap (ltb 0) (sym (are.references op c at))
+
+pub no_references : (rows : Rows) (limit : ℕ) (h : List Event) → Legal rows limit h → (courses : List Course) (waits : List (List ℕ)) → AreCourses rows h courses waits → (op : OpId) → length courses ≤ op.0 → references_of h op ≡ 0
+no_references rows limit h legal courses waits are op le = references_none h op (no_load_past rows limit h legal op (omega (arith, are.many)))
 
 pub not_unreleased : (rows : Rows) (limit : ℕ) (h : List Event) → Legal rows limit h → (courses : List Course) (waits : List (List ℕ)) → AreCourses rows h courses waits → (op : OpId) → length courses ≤ op.0 → is_unreleased h op ≡ false
-unfolding is_unreleased
-not_unreleased rows limit h legal courses waits are op le = ap (λ t. t && not (has_release h op)) (no_load_past rows limit h legal op (omega (arith, are.many)))
+not_unreleased rows limit h legal courses waits are op le = unreleased_is h op ∙ ap (ltb 0) (no_references rows limit h legal courses waits are op le)

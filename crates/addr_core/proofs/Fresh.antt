@@ -6,11 +6,11 @@ use Rattle.std.specs.List.{count_by}
 use Rattle.addr_base.specs.declared.ids.BundleNo.{BundleNo}
 use Rattle.addr_base.specs.declared.ids.OpId.{OpId}
 use Rattle.addr_locate.specs.Rows.{Rows}
-use Rattle.addr_history.specs.Counts.{loads_of, is_unreleased, is_closed, open_count, count_of}
+use Rattle.addr_history.specs.Counts.{loads_of, is_unreleased, references_of, is_closed, references_in, count_of}
 use Rattle.addr_history.specs.Places.{is_resident, is_fetched, is_fetched_by, is_queued, queue, bundles_of}
 use Rattle.addr_history.proofs.Owed.{count_none}
 use Rattle.addr_queue.specs.Queue.{Ordered}
-use Rattle.addr_core.specs.declared.slots.Slot.{Slot}
+use Rattle.addr_queue.specs.declared.slots.Slot.{Slot}
 use Rattle.addr_core.specs.within.Kept.{IsSlot, Holds}
 use Rattle.addr_core.specs.within.Courses.{times_in}
 
@@ -31,15 +31,15 @@ unfolding loads_of
 none_loaded = refl
 
 none_open : (op : OpId) → is_unreleased [] op ≡ false
-unfolding is_unreleased
+unfolding is_unreleased references_of
 none_open op = refl
 
 nothing_fetched : (bs : List BundleNo) → count_by (is_fetched []) bs ≡ 0
 unfolding is_fetched
 nothing_fetched bs = count_none bs
 
-nothing_open : open_count [] ≡ 0
-unfolding open_count
+nothing_open : references_in [] ≡ 0
+unfolding references_in
 nothing_open = refl
 
 not_closed : is_closed [] ≡ false
@@ -59,7 +59,7 @@ holds_fresh rows = record {
   };
   are_courses = record {
     many = sym none_loaded;
-    released = λ op c at. (let none : None ≡ Some c = at in cc);
+    references = λ op c at. (let none : None ≡ Some c = at in cc);
     failed = λ op c at now. (let none : None ≡ Some c = at in cc);
     missing = λ op c at now none. (let nothing : None ≡ Some c = at in cc);
     waiting = λ op b ws at now none. absurd (false≢true (sym (none_open op) ∙ now));

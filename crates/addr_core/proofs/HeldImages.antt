@@ -11,7 +11,7 @@ use Rattle.addr_history.proofs.CountSteps.{resident_counted}
 use Rattle.addr_history.proofs.Owed.{numbers}
 use Rattle.addr_core.specs.Machine.{HasImages, IdleHaveNone}
 use Rattle.addr_core.proofs.Advance.{machine, images_length}
-use Rattle.addr_core.proofs.Changing.{slice_there}
+use Rattle.addr_queue.proofs.Changing.{slice_there}
 
 pub images_held : {I : Type 0} (fits : I → ℕ → Digest → Type 0) (rows : Rows) (limit : ℕ) (h : List Event) (images : List (Option I)) → HasImages (machine fits rows limit h images) → map is_some images ≡ map (is_resident rows h) (bundles_of rows)
 unfolding HasImages

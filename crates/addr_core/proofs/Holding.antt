@@ -10,30 +10,32 @@ use Rattle.addr_locate.specs.Rows.{Rows, no_repeats}
 use Rattle.addr_history.specs.declared.ask.Ask.{Ask}
 use Rattle.addr_history.specs.declared.answers.OpStatus.TheVariants.{Failed}
 use Rattle.addr_history.specs.declared.event.Event.{Event}
-use Rattle.addr_history.specs.declared.event.Event.TheVariants.{Load, Release, Take, Done, Fail, Close}
+use Rattle.addr_history.specs.declared.event.Event.TheVariants.{Load, Acquire, Release, Take, Done, Fail, Close}
 use Rattle.addr_history.specs.Events.{is_in, is_close, is_take_of, is_end_of, needs_of}
-use Rattle.addr_history.specs.Counts.{count_of, is_closed, is_unreleased, needs_of_op}
+use Rattle.addr_history.specs.Counts.{count_of, is_closed, references_of, is_unreleased, needs_of_op}
 use Rattle.addr_history.specs.Places.{is_resident, is_fetched, is_fetched_by, is_queued, is_absent, queue, bundles_of}
 use Rattle.addr_history.specs.Legal.{IsAnswer, Legal}
 use Rattle.addr_history.proofs.Points.{or-false}
-use Rattle.addr_history.proofs.Legality.{prefix, release_facts, done_facts, fail_facts}
+use Rattle.addr_history.proofs.Legality.{prefix, acquire_facts, release_facts, done_facts, fail_facts}
 use Rattle.addr_history.proofs.Ranges.{Sound, take_facts, queued_below, fetched_below, fetched_by_some, asked_below}
-use Rattle.addr_history.proofs.Owed.{closed_push, open_load, open_release, open_same}
+use Rattle.addr_history.proofs.Owed.{closed_push, references_same}
+use Rattle.addr_history.proofs.Counting.{references_kept, references_load, references_acquire, references_release}
+use Rattle.addr_history.proofs.CountSteps.{take_calm, done_calm, fail_calm, close_calm, acquire_calm, left_calm}
 use Rattle.addr_queue.specs.Queue.{Ordered}
-use Rattle.addr_core.specs.within.Changes.{put_at, changed_from, change, change_each, cleared_each}
-use Rattle.addr_core.specs.declared.slots.Slot.{Slot}
+use Rattle.addr_queue.specs.Changes.{put_at, changed_from, change, change_each, cleared_each}
+use Rattle.addr_queue.specs.declared.slots.Slot.{Slot}
 use Rattle.addr_core.specs.declared.courses.Course.{Course}
 use Rattle.addr_core.specs.within.Kept.{AreSlots, AreCourses, IsSlot, Holds}
-use Rattle.addr_core.specs.within.Courses.{waited_each, woken, failed_by, given_back}
-use Rattle.addr_core.specs.within.Slots.{passes_from, passes, leaves, is_out, is_missing, is_idle, left_each, joined_each, taken, ended, let_go, taken_in}
-use Rattle.addr_core.proofs.Changing.{length_change_each, length_cleared, cleared_from, slice_there}
+use Rattle.addr_core.specs.within.Courses.{waited_each, woken, failed_by, given_back, acquired}
+use Rattle.addr_queue.specs.Slots.{passes_from, passes, leaves, is_out, is_missing, is_idle, left_each, joined_each, taken, ended, let_go, taken_in}
+use Rattle.addr_queue.proofs.Changing.{length_change_each, length_cleared, cleared_from, slice_there}
 use Rattle.addr_history.proofs.QueueSteps.{filter_within, in_filter, in_queue, needs_once, queued_counted}
 use Rattle.addr_history.proofs.StatusSteps.{apart, needed_counted}
-use Rattle.addr_core.proofs.CourseSteps.{quiet_courses, same_release, done_courses, fail_courses, release_courses, forgotten_courses, load_courses, IsJoined}
+use Rattle.addr_core.proofs.CourseSteps.{quiet_courses, alike_same, done_courses, fail_courses, release_courses, acquire_courses, forgotten_courses, load_courses, IsJoined}
 use Rattle.addr_core.proofs.WantedSteps.{wanted_calm, wanted_load, wanted_release}
-use Rattle.addr_core.proofs.SlotSteps.{slots_take, slots_done, slots_fail, slots_close, slots_load, slots_release, count_less, changed_once}
+use Rattle.addr_core.proofs.SlotSteps.{slots_take, slots_done, slots_fail, slots_close, slots_load, slots_release, slots_acquire, slots_given, count_less, changed_once}
 use Rattle.addr_history.proofs.QueueEvents.{queue_load, queue_release, queue_take, queue_calm, fetching_same, fetching_taken, fetching_ended}
-use Rattle.addr_core.proofs.Leaving.{left_is, joined_is}
+use Rattle.addr_queue.proofs.Leaving.{left_is, joined_is}
 use Rattle.addr_core.specs.within.Wanting.{nothing, wanted_of}
 use Rattle.addr_core.specs.declared.wanted.Wanted.{Wanted}
 
@@ -76,15 +78,15 @@ module _ (rows : Rows) (limit : ℕ) (h : List Event) (wanted : List Wanted) (sl
       let before = prefix rows limit h (Take o w ∷ []) legal in
       let queued = take_facts rows limit h o w (legal.answers h (Take o w) [] refl) in
       record {
-        are_wanted = wanted_calm rows limit h (Take o w) refl wanted holds.are_wanted;
+        are_wanted = wanted_calm rows limit h (Take o w) legal refl wanted holds.are_wanted;
         are_slots = slots_take rows limit h o w legal slots holds.are_slots;
-        are_courses = quiet_courses rows limit h (Take o w) legal courses lists holds.are_courses refl courses refl (λ op c at. holds.are_courses.released op c at ∙ sym (same_release rows limit h (Take o w) op refl)) (λ op now. refl) (λ op. refl) (λ op b was asked. refl);
+        are_courses = quiet_courses rows limit h (Take o w) legal courses lists holds.are_courses refl courses refl (λ op c at. holds.are_courses.references op c at ∙ sym (references_kept h (Take o w) op refl refl refl)) (alike_same rows limit courses) (λ op. refl) (λ op b was asked. refl);
         all_lists = holds.all_lists;
         in_order =
             ap (λ (l : Ordered). let k : Ordered = record { room = l.room; bundles = filter (λ (c : BundleNo). not (eqb c.0 o.0)) l.bundles } in k) holds.in_order
             ∙ ap (λ (l : List BundleNo). let k : Ordered = record { room = length rows.bundles; bundles = l } in k) (sym (queue_take rows limit h o w legal));
         now_fetched = ap (λ n. n + 1) holds.now_fetched ∙ sym (fetching_taken rows limit h o w (queued_below rows sound h o queued) (free before queued));
-        now_open = holds.now_open ∙ sym (open_same rows limit h (Take o w) (λ p. refl) refl);
+        now_open = holds.now_open ∙ sym (references_same rows limit h (Take o w) (λ p. (refl, refl)) refl);
         now_closed = closed_same (Take o w) refl;
       }
     where
@@ -116,14 +118,14 @@ module _ (rows : Rows) (limit : ℕ) (h : List Event) (wanted : List Wanted) (sl
       let before = prefix rows limit h (Done o w ∷ []) legal in
       let by = done_facts rows limit h o w (legal.answers h (Done o w) [] refl) in
       record {
-        are_wanted = wanted_calm rows limit h (Done o w) refl wanted holds.are_wanted;
+        are_wanted = wanted_calm rows limit h (Done o w) legal refl wanted holds.are_wanted;
         are_slots = subst (AreSlots rows (h ++ Done o w ∷ [])) (ended_slots o w false (sym (ap (ltb 0) none))) (slots_done rows limit h o w legal slots holds.are_slots);
-        are_courses = quiet_courses rows limit h (Done o w) legal courses lists holds.are_courses refl courses refl (λ op c at. holds.are_courses.released op c at ∙ sym (same_release rows limit h (Done o w) op refl)) (λ op now. refl) (λ op. refl)
+        are_courses = quiet_courses rows limit h (Done o w) legal courses lists holds.are_courses refl courses refl (λ op c at. holds.are_courses.references op c at ∙ sym (references_kept h (Done o w) op refl refl refl)) (alike_same rows limit courses) (λ op. refl)
             (λ op b was asked. ne_eqb o.0 b.0 (λ same. omega (arith, needed_counted rows limit h before op b was asked, ap (λ n. count_of rows h (let r : BundleNo = record { 0 = n } in r)) (sym same) ∙ none)));
         all_lists = holds.all_lists;
-        in_order = order_calm (Done o w) legal (queue_calm rows limit h (Done o w) legal refl (λ b. refl) (refl, λ p. refl));
+        in_order = order_calm (Done o w) legal (queue_calm rows limit h (Done o w) legal refl (λ b. refl) (done_calm h o w));
         now_fetched = fetched_less sound (Done o w) o w (λ c. refl) (λ c. refl) before by;
-        now_open = holds.now_open ∙ sym (open_same rows limit h (Done o w) (λ p. refl) refl);
+        now_open = holds.now_open ∙ sym (references_same rows limit h (Done o w) (λ p. (refl, refl)) refl);
         now_closed = closed_same (Done o w) refl;
       }
 
@@ -132,13 +134,13 @@ module _ (rows : Rows) (limit : ℕ) (h : List Event) (wanted : List Wanted) (sl
       let before = prefix rows limit h (Done o w ∷ []) legal in
       let by = done_facts rows limit h o w (legal.answers h (Done o w) [] refl) in
       record {
-        are_wanted = wanted_calm rows limit h (Done o w) refl wanted holds.are_wanted;
+        are_wanted = wanted_calm rows limit h (Done o w) legal refl wanted holds.are_wanted;
         are_slots = subst (AreSlots rows (h ++ Done o w ∷ [])) (ended_slots o w true (sym (lt-ltb 0 (count_of rows h o) some))) (slots_done rows limit h o w legal slots holds.are_slots);
         are_courses = done_courses rows limit h o w legal courses lists holds.are_courses ws there;
         all_lists = length-set lists o.0 [] ∙ holds.all_lists;
-        in_order = order_calm (Done o w) legal (queue_calm rows limit h (Done o w) legal refl (λ b. refl) (refl, λ p. refl));
+        in_order = order_calm (Done o w) legal (queue_calm rows limit h (Done o w) legal refl (λ b. refl) (done_calm h o w));
         now_fetched = fetched_less sound (Done o w) o w (λ c. refl) (λ c. refl) before by;
-        now_open = holds.now_open ∙ sym (open_same rows limit h (Done o w) (λ p. refl) refl);
+        now_open = holds.now_open ∙ sym (references_same rows limit h (Done o w) (λ p. (refl, refl)) refl);
         now_closed = closed_same (Done o w) refl;
       }
 
@@ -148,25 +150,25 @@ module _ (rows : Rows) (limit : ℕ) (h : List Event) (wanted : List Wanted) (sl
       let answer = legal.answers h (Fail o w k) [] refl in
       let by = fail_facts rows limit h o w k answer in
       record {
-        are_wanted = wanted_calm rows limit h (Fail o w k) refl wanted holds.are_wanted;
+        are_wanted = wanted_calm rows limit h (Fail o w k) legal refl wanted holds.are_wanted;
         are_slots = slots_fail rows limit h o w k legal slots holds.are_slots;
         are_courses = fail_courses rows limit h o w k legal answer courses lists holds.are_courses ws there;
         all_lists = length-set lists o.0 [] ∙ holds.all_lists;
-        in_order = order_calm (Fail o w k) legal (queue_calm rows limit h (Fail o w k) legal refl (λ b. refl) (refl, λ p. refl));
+        in_order = order_calm (Fail o w k) legal (queue_calm rows limit h (Fail o w k) legal refl (λ b. refl) (fail_calm h o w k));
         now_fetched = fetched_less sound (Fail o w k) o w (λ c. refl) (λ c. refl) before by;
-        now_open = holds.now_open ∙ sym (open_same rows limit h (Fail o w k) (λ p. refl) refl);
+        now_open = holds.now_open ∙ sym (references_same rows limit h (Fail o w k) (λ p. (refl, refl)) refl);
         now_closed = closed_same (Fail o w k) refl;
       }
 
   pub holds_close : Legal rows limit (h ++ Close ∷ []) → Holds rows (h ++ Close ∷ []) wanted slots courses lists order fetched opens true
   holds_close legal = record {
-    are_wanted = wanted_calm rows limit h Close refl wanted holds.are_wanted;
+    are_wanted = wanted_calm rows limit h Close legal refl wanted holds.are_wanted;
     are_slots = slots_close rows limit h legal slots holds.are_slots;
-    are_courses = quiet_courses rows limit h Close legal courses lists holds.are_courses refl courses refl (λ op c at. holds.are_courses.released op c at ∙ sym (same_release rows limit h Close op refl)) (λ op now. refl) (λ op. refl) (λ op b was asked. refl);
+    are_courses = quiet_courses rows limit h Close legal courses lists holds.are_courses refl courses refl (λ op c at. holds.are_courses.references op c at ∙ sym (references_kept h Close op refl refl refl)) (alike_same rows limit courses) (λ op. refl) (λ op b was asked. refl);
     all_lists = holds.all_lists;
-    in_order = order_calm Close legal (queue_calm rows limit h Close legal refl (λ b. refl) (refl, λ p. refl));
+    in_order = order_calm Close legal (queue_calm rows limit h Close legal refl (λ b. refl) (close_calm h));
     now_fetched = holds.now_fetched ∙ sym (fetching_same rows limit h Close (λ b. (refl, refl)));
-    now_open = holds.now_open ∙ sym (open_same rows limit h Close (λ p. refl) refl);
+    now_open = holds.now_open ∙ sym (references_same rows limit h Close (λ p. (refl, refl)) refl);
     now_closed = sym (closed_push h Close ∙ or_on (is_closed h));
   }
     where
@@ -189,10 +191,10 @@ module _ (rows : Rows) (limit : ℕ) (h : List Event) (wanted : List Wanted) (sl
       at None there passed = absurd (false≢true passed)
       at (Some s) there passed = sym (holds.are_slots.each b s there).queued ∙ not-true s.queued (and_parts (not s.resident && not (is_some s.fetcher)) (not s.queued) passed).1
 
-  pub holds_release : Sound rows → (needs : List BundleNo) (o : OpId) (caller : ℕ) → Legal rows limit (h ++ Release o caller ∷ []) → needs ≡ needs_of_op rows h o → no_repeats needs ≡ true
+  pub holds_release : Sound rows → (needs : List BundleNo) (o : OpId) (caller : ℕ) → Legal rows limit (h ++ Release o caller ∷ []) → needs ≡ needs_of_op rows h o → references_of h o ≤ 1 → no_repeats needs ≡ true
       → Holds rows (h ++ Release o caller ∷ []) (set wanted o.0 nothing) (change_each let_go (map (λ (b : BundleNo). b.0) needs) slots) (change given_back o.0 courses) (cleared_each [] (passes is_idle (change_each let_go (map (λ (b : BundleNo). b.0) needs) slots)) needs lists) (record { room = order.room; bundles = left_each (passes leaves slots) needs order.bundles }) fetched (opens - 1) closed
-  holds_release sound needs o caller legal known once = record {
-    are_wanted = wanted_release rows limit h o caller wanted holds.are_wanted;
+  holds_release sound needs o caller legal known last once = record {
+    are_wanted = wanted_release rows limit h o caller legal last wanted holds.are_wanted;
     are_slots = after;
     are_courses = forgotten_courses rows limit (h ++ Release o caller ∷ []) legal (change given_back o.0 courses) lists (cleared_each [] (passes is_idle slots2) needs lists) (release_courses rows limit h o caller legal courses lists holds.are_courses) forgets;
     all_lists = length_cleared [] (passes is_idle slots2) needs lists ∙ holds.all_lists;
@@ -201,7 +203,7 @@ module _ (rows : Rows) (limit : ℕ) (h : List Event) (wanted : List Wanted) (sl
         ∙ ap (λ (l : List BundleNo). let k : Ordered = record { room = length rows.bundles; bundles = l } in k)
         (left_is (passes leaves slots) needs (queue rows h) ∙ filter_within (λ c. not (is_in c needs && passes leaves slots c)) (λ c. ltb 0 (count_of rows (h ++ Release o caller ∷ []) c)) (queue rows h) at ∙ sym (queue_release rows limit h o caller));
     now_fetched = holds.now_fetched ∙ sym (fetching_same rows limit h (Release o caller) (λ b. (refl, refl)));
-    now_open = omega (arith, holds.now_open, open_release rows limit h before o caller was);
+    now_open = omega (arith, holds.now_open, references_release rows limit h before o caller was);
     now_closed = closed_same (Release o caller) refl;
   }
     where
@@ -215,7 +217,7 @@ module _ (rows : Rows) (limit : ℕ) (h : List Event) (wanted : List Wanted) (sl
       slots2 = change_each let_go (map (λ (b : BundleNo). b.0) needs) slots
 
       after : AreSlots rows (h ++ Release o caller ∷ []) slots2
-      after = slots_release rows limit h o caller legal needs known slots once holds.are_slots
+      after = slots_release rows limit h o caller legal needs known last slots once holds.are_slots
 
       -- a list that is given up is that of a bundle that nobody needs
       forgets : (b : BundleNo) (ws : List ℕ) → slice_get (cleared_each [] (passes is_idle slots2) needs lists) b.0 ≡ Some ws → ((ws ≡ []) × (count_of rows (h ++ Release o caller ∷ []) b ≡ 0)) ⊎ (slice_get lists b.0 ≡ Some ws)
@@ -241,10 +243,41 @@ module _ (rows : Rows) (limit : ℕ) (h : List Event) (wanted : List Wanted) (sl
           let slot = slot_is b (queued_below rows sound h b queued) in
           let pos = counted queued in
           ap (λ t. not (is_in b needs && t)) (passes_is leaves b slot.0 slot.1.0 ∙ ap (λ t. t && leb slot.0.count 1) (slot.1.1.queued ∙ queued) ∙ ap (λ n. leb n 1) slot.1.1.count)
-          ∙ by (is_in b needs) (count_of rows h b) (count_of rows (h ++ Release o caller ∷ []) b) pos (count_less rows limit h o caller legal needs known b)
+          ∙ by (is_in b needs) (count_of rows h b) (count_of rows (h ++ Release o caller ∷ []) b) pos (count_less rows limit h o caller legal needs known last b)
         where
           counted : is_queued rows h b ≡ true → 0 < count_of rows h b
           counted queued = ltb-true 0 (count_of rows h b) (queued_counted rows limit h (prefix rows limit h (Release o caller ∷ []) legal) b queued)
+
+  -- one reference less that isn't the last, and one more
+  pub holds_given : (o : OpId) (caller : ℕ) → Legal rows limit (h ++ Release o caller ∷ []) → 1 < references_of h o → Holds rows (h ++ Release o caller ∷ []) wanted slots (change given_back o.0 courses) lists order fetched (opens - 1) closed
+  holds_given o caller legal more =
+      let before = prefix rows limit h (Release o caller ∷ []) legal in
+      let was = release_facts rows limit h o caller (legal.answers h (Release o caller) [] refl) in
+      record {
+        are_wanted = wanted_calm rows limit h (Release o caller) legal refl wanted holds.are_wanted;
+        are_slots = slots_given rows limit h o caller more legal slots holds.are_slots;
+        are_courses = release_courses rows limit h o caller legal courses lists holds.are_courses;
+        all_lists = holds.all_lists;
+        in_order = order_calm (Release o caller) legal (queue_calm rows limit h (Release o caller) legal refl (λ b. refl) (left_calm h o caller more));
+        now_fetched = holds.now_fetched ∙ sym (fetching_same rows limit h (Release o caller) (λ b. (refl, refl)));
+        now_open = omega (arith, holds.now_open, references_release rows limit h before o caller was);
+        now_closed = closed_same (Release o caller) refl;
+      }
+
+  pub holds_acquire : (o : OpId) (caller : ℕ) → length h ≤ 1000000 → Legal rows limit (h ++ Acquire o caller ∷ []) → Holds rows (h ++ Acquire o caller ∷ []) wanted slots (change acquired o.0 courses) lists order fetched (opens + 1) closed
+  holds_acquire o caller short legal =
+      let before = prefix rows limit h (Acquire o caller ∷ []) legal in
+      let has = (acquire_facts rows limit h o caller (legal.answers h (Acquire o caller) [] refl)).has in
+      record {
+        are_wanted = wanted_calm rows limit h (Acquire o caller) legal refl wanted holds.are_wanted;
+        are_slots = slots_acquire rows limit h o caller has legal slots holds.are_slots;
+        are_courses = acquire_courses rows limit h o caller short legal courses lists holds.are_courses;
+        all_lists = holds.all_lists;
+        in_order = order_calm (Acquire o caller) legal (queue_calm rows limit h (Acquire o caller) legal refl (λ b. refl) (acquire_calm h o caller has));
+        now_fetched = holds.now_fetched ∙ sym (fetching_same rows limit h (Acquire o caller) (λ b. (refl, refl)));
+        now_open = omega (arith, holds.now_open, references_acquire rows limit h before o caller has);
+        now_closed = closed_same (Acquire o caller) refl;
+      }
 
   waited_is : (test : BundleNo → Bool) (op : ℕ) (needs : List BundleNo) (ls : List (List ℕ)) → waited_each test op needs ls ≡ change_each (λ ops. ops ++ op ∷ []) (map (λ (b : BundleNo). b.0) (filter test needs)) ls
   waited_is test op [] ls = refl
@@ -273,12 +306,12 @@ module _ (rows : Rows) (limit : ℕ) (h : List Event) (wanted : List Wanted) (sl
       (before.0, (before.1.0, sym before.1.1 ∙ ap (λ t. let l : List ℕ = if t then before.0 ++ op ∷ [] else before.0 in l) (in_filter b test needs)))
 
   pub holds_load : Sound rows → length h ≤ 1000000 → (o : OpId) (caller : ℕ) (ask : Ask) → IsAnswer rows limit h (Load o caller ask) → Legal rows limit h → (missing : ℕ) → missing ≡ count_by (λ b. not (is_resident rows h b)) (needs_of rows ask)
-      → Holds rows (h ++ Load o caller ask ∷ []) (wanted ++ wanted_of rows ask ∷ []) (change_each taken_in (map (λ (b : BundleNo). b.0) (needs_of rows ask)) slots) (courses ++ record { missing = missing; failed = None; released = false } ∷ []) (waited_each (passes is_missing slots) o.0 (needs_of rows ask) lists) (record { room = order.room; bundles = joined_each (passes is_out slots) (needs_of rows ask) order.bundles }) fetched (opens + 1) closed
+      → Holds rows (h ++ Load o caller ask ∷ []) (wanted ++ wanted_of rows ask ∷ []) (change_each taken_in (map (λ (b : BundleNo). b.0) (needs_of rows ask)) slots) (courses ++ record { missing = missing; failed = None; references = 1 } ∷ []) (waited_each (passes is_missing slots) o.0 (needs_of rows ask) lists) (record { room = order.room; bundles = joined_each (passes is_out slots) (needs_of rows ask) order.bundles }) fetched (opens + 1) closed
   holds_load sound short o caller ask answer legal missing is = record {
     are_wanted = wanted_load rows limit h legal o caller ask answer wanted holds.are_wanted;
     are_slots = slots_load rows limit h legal o caller ask answer short slots once holds.are_slots;
     are_courses =
-        subst (λ n. AreCourses rows (h ++ Load o caller ask ∷ []) (courses ++ record { missing = n; failed = None; released = false } ∷ []) (waited_each (passes is_missing slots) o.0 (needs_of rows ask) lists)) (sym is)
+        subst (λ n. AreCourses rows (h ++ Load o caller ask ∷ []) (courses ++ record { missing = n; failed = None; references = 1 } ∷ []) (waited_each (passes is_missing slots) o.0 (needs_of rows ask) lists)) (sym is)
         (load_courses rows limit h legal o caller ask answer courses lists (waited_each (passes is_missing slots) o.0 (needs_of rows ask) lists) holds.are_courses joined);
     all_lists = ap length (waited_is (passes is_missing slots) o.0 (needs_of rows ask) lists) ∙ length_change_each (λ ops. ops ++ o.0 ∷ []) (map (λ (b : BundleNo). b.0) (filter (passes is_missing slots) (needs_of rows ask))) lists ∙ holds.all_lists;
     in_order =
@@ -288,7 +321,7 @@ module _ (rows : Rows) (limit : ℕ) (h : List Event) (wanted : List Wanted) (sl
         ∙ ap (λ (l : List BundleNo). queue rows h ++ l) (filter_within (passes is_out slots) (is_absent rows h) (needs_of rows ask) (λ b asked. out_is b (asked_below rows sound (Load o caller ask) b asked)))
         ∙ sym (queue_load rows limit h legal o caller ask answer));
     now_fetched = holds.now_fetched ∙ sym (fetching_same rows limit h (Load o caller ask) (λ b. (refl, refl)));
-    now_open = omega (arith, holds.now_open, open_load rows limit h legal o caller ask answer);
+    now_open = omega (arith, holds.now_open, references_load rows limit h legal o caller ask answer);
     now_closed = closed_same (Load o caller ask) refl;
   }
     where

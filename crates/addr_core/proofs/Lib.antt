@@ -1,17 +1,14 @@
 pub mod Accepting
 pub mod Advance
 pub mod Answering
-pub mod Changing
 pub mod Clearing
 pub mod CourseSteps
 pub mod Fresh
 pub mod HeldImages
 pub mod Holding
 pub mod Keeping
-pub mod Leaving
 pub mod Machines
 pub mod Nows
-pub mod Places
 pub mod Preparing
 mod ReadAllSteps
 pub mod ReadSteps

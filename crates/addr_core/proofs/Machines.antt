@@ -13,22 +13,23 @@ use Rattle.addr_history.specs.Answers.{reserved, close_adds, fail_adds}
 use Rattle.addr_history.specs.Legal.{IsAnswer, Legal}
 use Rattle.addr_history.proofs.Legality.{extend}
 use Rattle.addr_history.proofs.Ranges.{Sound, take_facts, fetched_below, fetched_by_some}
-use Rattle.addr_history.proofs.Owed.{within_limit, open_release}
+use Rattle.addr_history.proofs.Owed.{within_limit}
+use Rattle.addr_history.proofs.Counting.{references_release}
 use Rattle.std.proofs.lemmas.Bool.{ltb-false, cases_Bool}
 use Rattle.addr_core.specs.within.Kept.{Known, IsJournal, HasRooms}
 use Rattle.addr_core.proofs.Advance.{journal_record}
 use Rattle.addr_queue.specs.Queue.{Ordered, is_among}
-use Rattle.addr_core.specs.declared.slots.Slot.{Slot}
+use Rattle.addr_queue.specs.declared.slots.Slot.{Slot}
 use Rattle.addr_core.specs.declared.courses.Course.{Course}
-use Rattle.addr_core.specs.within.Changes.{change}
+use Rattle.addr_queue.specs.Changes.{change}
 use Rattle.addr_core.specs.within.Kept.{Holds, IsCore}
 use Rattle.addr_core.specs.within.Courses.{Waiting, waiting_lists}
-use Rattle.addr_core.specs.within.Slots.{passes, passes_from, is_by, taken}
+use Rattle.addr_queue.specs.Slots.{passes, passes_from, is_by, taken}
 use Rattle.addr_history.proofs.QueueSteps.{in_queue}
-use Rattle.addr_core.proofs.Changing.{slice_there}
+use Rattle.addr_queue.proofs.Changing.{slice_there}
 use Rattle.addr_core.proofs.Holding.{holds_take, slot_is}
 use Rattle.addr_history.proofs.QueueEvents.{fetching_ended}
-use Rattle.addr_core.proofs.Changing.{past_from}
+use Rattle.addr_queue.proofs.Changing.{past_from}
 use Rattle.addr_base.specs.declared.cause.Cause.{Cause}
 use Rattle.addr_core.specs.declared.wanted.Wanted.{Wanted}
 
@@ -91,7 +92,7 @@ module _ (rows : Rows) (limit : ℕ) (h : List Event) (wanted : List Wanted) (sl
   fetched_pos b w by = omega (arith, holds.now_fetched, fetching_ended rows limit h (Done b w) b (λ c. refl) (λ c. refl) (below_rows b w by) (fetched_by_some h b w by))
 
   pub opens_pos : (op : OpId) (caller : ℕ) → is_unreleased h op ≡ true → 1 ≤ opens
-  opens_pos op caller is = omega (arith, holds.now_open, open_release rows limit h legal op caller is)
+  opens_pos op caller is = omega (arith, holds.now_open, references_release rows limit h legal op caller is)
 
   pub fetched_by_at : (b : BundleNo) (w : ℕ) → passes (λ s. is_by w s.fetcher) slots b ≡ is_fetched_by h b w
   fetched_by_at b w = at (slice_get slots b.0) refl

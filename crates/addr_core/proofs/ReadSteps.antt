@@ -27,7 +27,7 @@ use Rattle.addr_history.specs.declared.answers.NoHandle.{NoHandle as NoHandleErr
 use Rattle.addr_history.specs.declared.answers.OpStatus.{OpStatus}
 use Rattle.addr_history.specs.declared.answers.OpStatus.TheVariants as status
 use Rattle.addr_history.specs.declared.event.Event.{Event}
-use Rattle.addr_history.specs.declared.event.Event.TheVariants.{Load, Release, Take, Done, Fail, Close}
+use Rattle.addr_history.specs.declared.event.Event.TheVariants.{Load, Acquire, Release, Take, Done, Fail, Close}
 use Rattle.addr_history.specs.declared.reading.ReadErr.{ReadErr}
 use Rattle.addr_history.specs.declared.reading.ReadErr.TheVariants.{NoHandle, NoAsset, Pending, Failed, Absent, NoMemory}
 use Rattle.addr_core.specs.Machine.{HasImages, ReadyHave}
@@ -37,7 +37,7 @@ use Rattle.addr_objects.specs.Objects.{ReadsAsset}
 use Rattle.addr_objects.proofs.Filled.{filled}
 use Rattle.addr_core.specs.within.Wanting.{wanted_at}
 use Rattle.addr_core.proofs.Advance.{machine, images_length}
-use Rattle.addr_core.proofs.Changing.{slice_there}
+use Rattle.addr_queue.proofs.Changing.{slice_there}
 use Rattle.addr_core.proofs.HeldImages.{held_place, images_held}
 use Rattle.addr_core.proofs.WantedSteps.{wanted_are}
 
@@ -107,6 +107,7 @@ module _ (rows : Rows) (h : List Event) where
       by : (t : Bool) → slice_get (if t then all else take 1 all) i ≡ Some row → ltb row.0 (length rows.assets) ≡ true
       by true there = passes_at (λ (r : RowNo). ltb r.0 (length rows.assets)) all i row (merged-within rows.assets ask.keys ask.mode ask.kind) there
       by false there = passes_at (λ (r : RowNo). ltb r.0 (length rows.assets)) all i row (merged-within rows.assets ask.keys ask.mode ask.kind) (taken_at all i row there)
+  event_row (Acquire op caller) i row at = cc
   event_row (Release op caller) i row at = cc
   event_row (Take b worker) i row at = cc
   event_row (Done b worker) i row at = cc
@@ -179,6 +180,7 @@ module _ (rows : Rows) (h : List Event) (op : OpId) (i : ℕ) (a : AssetRow) (b 
   event_needs : (e : Event) → slice_get (rows_of_event rows e) i ≡ Some may.row → is_in b (needs_of_event rows e) ≡ true
   unfolding needs_of
   event_needs (Load o caller ask) at = deps_hold (rows_of_ask rows ask) at
+  event_needs (Acquire o caller) at = cc
   event_needs (Release o caller) at = cc
   event_needs (Take o worker) at = cc
   event_needs (Done o worker) at = cc
@@ -208,6 +210,7 @@ module _ (rows : Rows) (h : List Event) (op : OpId) (i : ℕ) (a : AssetRow) (b 
 no_ready : (bs : List BundleNo) (h : List Event) → first_failure bs h ≡ Some status.Ready → ⊥
 no_ready bs [] e = cc
 no_ready bs (Load o c k ∷ h) e = no_ready bs h e
+no_ready bs (Acquire o c ∷ h) e = no_ready bs h e
 no_ready bs (Release o c ∷ h) e = no_ready bs h e
 no_ready bs (Take o c ∷ h) e = no_ready bs h e
 no_ready bs (Done o c ∷ h) e = no_ready bs h e

@@ -1,5 +1,5 @@
 -- What each event does to the slots of bundles.
-use Rattle.std.proofs.Common.{◌≡◌, inl, inr, ℕ, ◌+◌, ◌-◌, ◌^◌, min, ◌≤◌, Bool, true, false, ◌&&◌, ◌||◌, not, eqb, ltb, List, [], ◌∷◌, ◌++◌, length, map, Some, is_some, slice_get, refl, sym, ◌∙◌, ap, subst, arith, if◌then◌else◌}
+use Rattle.std.proofs.Common.{◌≡◌, inl, inr, ℕ, ◌+◌, ◌-◌, ◌^◌, min, ◌≤◌, ◌<◌, Bool, true, false, ◌&&◌, ◌||◌, not, eqb, ltb, List, [], ◌∷◌, ◌++◌, length, map, Some, is_some, slice_get, refl, sym, ◌∙◌, ap, subst, arith, if◌then◌else◌}
 use Rattle.std.proofs.lemmas.Bool.{false≢true, and_parts, eq-eqb, ne_eqb, lt-ltb, le-ltb, not-true, cases_eq, cases_lt, cases_Bool}
 use Rattle.std.specs.List.{list_any}
 use Rattle.addr_base.specs.declared.ids.BundleNo.{BundleNo}
@@ -7,9 +7,9 @@ use Rattle.addr_base.specs.declared.ids.OpId.{OpId}
 use Rattle.addr_locate.specs.Rows.{Rows, no_repeats}
 use Rattle.addr_history.specs.declared.ask.Ask.{Ask}
 use Rattle.addr_history.specs.declared.event.Event.{Event}
-use Rattle.addr_history.specs.declared.event.Event.TheVariants.{Load, Release, Take, Done, Fail, Close}
+use Rattle.addr_history.specs.declared.event.Event.TheVariants.{Load, Acquire, Release, Take, Done, Fail, Close}
 use Rattle.addr_history.specs.Events.{is_in, is_take_of, is_take_by, is_done_of, is_end_of, needs_of, needs_of_event}
-use Rattle.addr_history.specs.Counts.{count_of, needs_of_op}
+use Rattle.addr_history.specs.Counts.{count_of, is_unreleased, references_of, needs_of_op}
 use Rattle.addr_history.specs.Places.{is_resident, is_fetched, is_fetched_by, is_queued}
 use Rattle.addr_history.specs.Legal.{IsAnswer, Legal}
 use Rattle.addr_history.proofs.Points.{and-true, or-false}
@@ -17,13 +17,13 @@ use Rattle.addr_history.proofs.Steps.{counts_on, fetched_push, fetched_by_push, 
 use Rattle.addr_history.proofs.Legality.{prefix, release_facts, fail_facts}
 use Rattle.addr_history.proofs.Counting.{one_if, count-cons}
 use Rattle.addr_history.proofs.Ranges.{take_facts, fetched_by_some}
-use Rattle.addr_history.proofs.CountSteps.{IsCalm, count_le, count_calm, count_load, count_release, resident_counted, same_resident}
-use Rattle.addr_core.specs.within.Changes.{change, change_each, times}
-use Rattle.addr_core.specs.declared.slots.Slot.{Slot}
+use Rattle.addr_history.proofs.CountSteps.{IsCalm, take_calm, done_calm, fail_calm, close_calm, acquire_calm, left_calm, count_le, count_calm, count_load, count_release, resident_counted, same_resident}
+use Rattle.addr_queue.specs.Changes.{change, change_each, times}
+use Rattle.addr_queue.specs.declared.slots.Slot.{Slot}
 use Rattle.addr_core.specs.within.Kept.{IsSlot, AreSlots}
 use Rattle.addr_core.specs.within.Courses.{times_in}
-use Rattle.addr_core.specs.within.Slots.{is_by, taken, ended, let_go, taken_in}
-use Rattle.addr_core.proofs.Changing.{length_change, length_change_each, change_same, change_other, change_each_at, was_there}
+use Rattle.addr_queue.specs.Slots.{is_by, taken, ended, let_go, taken_in}
+use Rattle.addr_queue.proofs.Changing.{length_change, length_change_each, change_same, change_other, change_each_at, was_there}
 use Rattle.addr_history.proofs.QueueSteps.{queued_counted}
 use Rattle.addr_history.proofs.StatusSteps.{apart}
 
@@ -125,10 +125,10 @@ module _ (rows : Rows) (limit : ℕ) where
       each = λ b s at. let before = changed_once taken_in (needs_of rows ask) slots b.0 s once at in subst (IsSlot rows (h ++ Load o caller ask ∷ []) b) before.1.1 (slot_load short b before.0 (are.each b before.0 before.1.0));
     }
 
-  module _ (h : List Event) (o : OpId) (caller : ℕ) (legal : Legal rows limit (h ++ Release o caller ∷ [])) (needs : List BundleNo) (known : needs ≡ needs_of_op rows h o) where
+  module _ (h : List Event) (o : OpId) (caller : ℕ) (legal : Legal rows limit (h ++ Release o caller ∷ [])) (needs : List BundleNo) (known : needs ≡ needs_of_op rows h o) (last : references_of h o ≤ 1) where
     pub count_less : (b : BundleNo) → count_of rows (h ++ Release o caller ∷ []) b ≡ count_of rows h b - one_if (is_in b needs)
     count_less b =
-        let less = count_release rows limit h (prefix rows limit h (Release o caller ∷ []) legal) o caller (release_facts rows limit h o caller (legal.answers h (Release o caller) [] refl)) b in
+        let less = count_release rows limit h (prefix rows limit h (Release o caller ∷ []) legal) o caller (release_facts rows limit h o caller (legal.answers h (Release o caller) [] refl)) last b in
         let same : one_if (is_in b needs) ≡ one_if (is_in b (needs_of_op rows h o)) = ap (λ (bs : List BundleNo). one_if (is_in b bs)) known in
         omega (arith, less, same)
 
@@ -180,8 +180,8 @@ module _ (rows : Rows) (limit : ℕ) where
       each = λ b s at. let before = changed_once let_go needs slots b.0 s once at in subst (IsSlot rows (h ++ Release o caller ∷ []) b) before.1.1 (slot_release b before.0 (are.each b before.0 before.1.0));
     }
 
-  -- an event that is neither a Load nor a Release
-  module _ (h : List Event) (e : Event) (legal : Legal rows limit (h ++ e ∷ [])) (calm : IsCalm e) (asks : (b : BundleNo) → is_in b (needs_of_event rows e) ≡ false) where
+  -- an event that changes no count
+  module _ (h : List Event) (e : Event) (legal : Legal rows limit (h ++ e ∷ [])) (calm : IsCalm h e) (asks : (b : BundleNo) → is_in b (needs_of_event rows e) ≡ false) where
     before_calm : Legal rows limit h
     before_calm = prefix rows limit h (e ∷ []) legal
 
@@ -233,12 +233,12 @@ module _ (rows : Rows) (limit : ℕ) where
 
   pub slots_take : (h : List Event) (o : BundleNo) (w : ℕ) → Legal rows limit (h ++ Take o w ∷ []) → (slots : List Slot) → AreSlots rows h slots → AreSlots rows (h ++ Take o w ∷ []) (change (taken w) o.0 slots)
   slots_take h o w legal =
-      slots_calm h (Take o w) legal (refl, λ p. refl) (λ b. refl) o (taken w) (λ b no. (no, refl, refl)) (λ b v no. ap (λ t. t && eqb w v) no) (λ s is. record {
-        count = is.count ∙ sym (calm_count h (Take o w) legal (refl, λ p. refl) (λ b. refl) o);
-        resident = is.resident ∙ sym (resident_push rows h (Take o w) o ∙ ap (λ t. t && counts_on rows h (Take o w) o) (or-false (is_resident rows h o)) ∙ ap (λ n. is_resident rows h o && ltb 0 n) (calm_count h (Take o w) legal (refl, λ p. refl) (λ b. refl) o) ∙ counted_on (is_resident rows h o) (count_of rows h o) (resident_counted rows limit h (prefix rows limit h (Take o w ∷ []) legal) o));
+      slots_calm h (Take o w) legal (take_calm h o w) (λ b. refl) o (taken w) (λ b no. (no, refl, refl)) (λ b v no. ap (λ t. t && eqb w v) no) (λ s is. record {
+        count = is.count ∙ sym (calm_count h (Take o w) legal (take_calm h o w) (λ b. refl) o);
+        resident = is.resident ∙ sym (resident_push rows h (Take o w) o ∙ ap (λ t. t && counts_on rows h (Take o w) o) (or-false (is_resident rows h o)) ∙ ap (λ n. is_resident rows h o && ltb 0 n) (calm_count h (Take o w) legal (take_calm h o w) (λ b. refl) o) ∙ counted_on (is_resident rows h o) (count_of rows h o) (resident_counted rows limit h (prefix rows limit h (Take o w ∷ []) legal) o));
         fetched = sym (fetched_push rows h (Take o w) o ∙ ap (λ t. (is_fetched h o && true) || t) (eq-eqb o.0 o.0 refl) ∙ or_on (is_fetched h o && true));
         fetcher = λ v. sym (fetched_by_push rows h (Take o w) o v ∙ ap (λ t. (t && true) || (eqb o.0 o.0 && eqb w v)) (nobody v) ∙ ap (λ t. t && eqb w v) (eq-eqb o.0 o.0 refl));
-        queued = sym (calm_queued h (Take o w) legal (refl, λ p. refl) (λ b. refl) o ∙ ap (λ t. is_queued rows h o && not t) (eq-eqb o.0 o.0 refl) ∙ and_off (is_queued rows h o));
+        queued = sym (calm_queued h (Take o w) legal (take_calm h o w) (λ b. refl) o ∙ ap (λ t. is_queued rows h o && not t) (eq-eqb o.0 o.0 refl) ∙ and_off (is_queued rows h o));
       })
     where
       or_on : (t : Bool) → (t || true) ≡ true
@@ -262,12 +262,12 @@ module _ (rows : Rows) (limit : ℕ) where
 
   pub slots_done : (h : List Event) (o : BundleNo) (w : ℕ) → Legal rows limit (h ++ Done o w ∷ []) → (slots : List Slot) → AreSlots rows h slots → AreSlots rows (h ++ Done o w ∷ []) (change (λ s. ended (ltb 0 s.count) s) o.0 slots)
   slots_done h o w legal =
-      slots_calm h (Done o w) legal (refl, λ p. refl) (λ b. refl) o (λ s. ended (ltb 0 s.count) s) (λ b no. (refl, no, no)) (λ b v no. refl) (λ s is. record {
-        count = is.count ∙ sym (calm_count h (Done o w) legal (refl, λ p. refl) (λ b. refl) o);
-        resident = sym (resident_push rows h (Done o w) o ∙ ap (λ t. (is_resident rows h o || t) && counts_on rows h (Done o w) o) (eq-eqb o.0 o.0 refl) ∙ ap (λ t. t && counts_on rows h (Done o w) o) (or_on (is_resident rows h o)) ∙ ap (ltb 0) (calm_count h (Done o w) legal (refl, λ p. refl) (λ b. refl) o ∙ sym is.count));
+      slots_calm h (Done o w) legal (done_calm h o w) (λ b. refl) o (λ s. ended (ltb 0 s.count) s) (λ b no. (refl, no, no)) (λ b v no. refl) (λ s is. record {
+        count = is.count ∙ sym (calm_count h (Done o w) legal (done_calm h o w) (λ b. refl) o);
+        resident = sym (resident_push rows h (Done o w) o ∙ ap (λ t. (is_resident rows h o || t) && counts_on rows h (Done o w) o) (eq-eqb o.0 o.0 refl) ∙ ap (λ t. t && counts_on rows h (Done o w) o) (or_on (is_resident rows h o)) ∙ ap (ltb 0) (calm_count h (Done o w) legal (done_calm h o w) (λ b. refl) o ∙ sym is.count));
         fetched = sym (fetched_push rows h (Done o w) o ∙ ap (λ t. (is_fetched h o && not t) || false) (eq-eqb o.0 o.0 refl) ∙ ap (λ t. t || false) (and_off (is_fetched h o)));
         fetcher = λ v. sym (fetched_by_push rows h (Done o w) o v ∙ ap (λ t. (is_fetched_by h o v && not t) || false) (eq-eqb o.0 o.0 refl) ∙ ap (λ t. t || false) (and_off (is_fetched_by h o v)));
-        queued = is.queued ∙ sym (calm_queued h (Done o w) legal (refl, λ p. refl) (λ b. refl) o ∙ and-true (is_queued rows h o));
+        queued = is.queued ∙ sym (calm_queued h (Done o w) legal (done_calm h o w) (λ b. refl) o ∙ and-true (is_queued rows h o));
       })
     where
       or_on : (t : Bool) → (t || true) ≡ true
@@ -276,13 +276,20 @@ module _ (rows : Rows) (limit : ℕ) where
 
   pub slots_fail : (h : List Event) (o : BundleNo) (w : ℕ) (k : _) → Legal rows limit (h ++ Fail o w k ∷ []) → (slots : List Slot) → AreSlots rows h slots → AreSlots rows (h ++ Fail o w k ∷ []) (change (ended false) o.0 slots)
   slots_fail h o w k legal =
-      slots_calm h (Fail o w k) legal (refl, λ p. refl) (λ b. refl) o (ended false) (λ b no. (refl, no, refl)) (λ b v no. refl) (λ s is. record {
-        count = is.count ∙ sym (calm_count h (Fail o w k) legal (refl, λ p. refl) (λ b. refl) o);
+      slots_calm h (Fail o w k) legal (fail_calm h o w k) (λ b. refl) o (ended false) (λ b no. (refl, no, refl)) (λ b v no. refl) (λ s is. record {
+        count = is.count ∙ sym (calm_count h (Fail o w k) legal (fail_calm h o w k) (λ b. refl) o);
         resident = sym (resident_push rows h (Fail o w k) o ∙ ap (λ t. (t || false) && counts_on rows h (Fail o w k) o) ((apart rows limit h (prefix rows limit h (Fail o w k ∷ []) legal) o).1 (fetched_by_some h o w (fail_facts rows limit h o w k (legal.answers h (Fail o w k) [] refl)))).0);
         fetched = sym (fetched_push rows h (Fail o w k) o ∙ ap (λ t. (is_fetched h o && not t) || false) (eq-eqb o.0 o.0 refl) ∙ ap (λ t. t || false) (and_off (is_fetched h o)));
         fetcher = λ v. sym (fetched_by_push rows h (Fail o w k) o v ∙ ap (λ t. (is_fetched_by h o v && not t) || false) (eq-eqb o.0 o.0 refl) ∙ ap (λ t. t || false) (and_off (is_fetched_by h o v)));
-        queued = is.queued ∙ sym (calm_queued h (Fail o w k) legal (refl, λ p. refl) (λ b. refl) o ∙ and-true (is_queued rows h o));
+        queued = is.queued ∙ sym (calm_queued h (Fail o w k) legal (fail_calm h o w k) (λ b. refl) o ∙ and-true (is_queued rows h o));
       })
 
   pub slots_close : (h : List Event) → Legal rows limit (h ++ Close ∷ []) → (slots : List Slot) → AreSlots rows h slots → AreSlots rows (h ++ Close ∷ []) slots
-  slots_close h legal = slots_same h Close legal (refl, λ p. refl) (λ b. refl) (λ b. (refl, refl, refl)) (λ b w. refl)
+  slots_close h legal = slots_same h Close legal (close_calm h) (λ b. refl) (λ b. (refl, refl, refl)) (λ b w. refl)
+
+  pub slots_acquire : (h : List Event) (o : OpId) (caller : ℕ) → is_unreleased h o ≡ true → Legal rows limit (h ++ Acquire o caller ∷ []) → (slots : List Slot) → AreSlots rows h slots → AreSlots rows (h ++ Acquire o caller ∷ []) slots
+  slots_acquire h o caller has legal = slots_same h (Acquire o caller) legal (acquire_calm h o caller has) (λ b. refl) (λ b. (refl, refl, refl)) (λ b w. refl)
+
+  -- a Release that leaves a reference
+  pub slots_given : (h : List Event) (o : OpId) (caller : ℕ) → 1 < references_of h o → Legal rows limit (h ++ Release o caller ∷ []) → (slots : List Slot) → AreSlots rows h slots → AreSlots rows (h ++ Release o caller ∷ []) slots
+  slots_given h o caller more legal = slots_same h (Release o caller) legal (left_calm h o caller more) (λ b. refl) (λ b. (refl, refl, refl)) (λ b w. refl)

@@ -5,11 +5,11 @@ use Rattle.std.proofs.lemmas.List.{map-set, drop_more}
 use Rattle.addr_base.specs.declared.ids.BundleNo.{BundleNo}
 use Rattle.addr_locate.specs.Rows.{no_repeats}
 use Rattle.addr_history.specs.Events.{is_in}
-use Rattle.addr_core.specs.within.Changes.{put_at, changed_from, change}
+use Rattle.addr_queue.specs.Changes.{put_at, changed_from, change}
 use Rattle.addr_core.specs.within.Courses.{Waiting, waiting_lists, HasRoom, waited_each}
-use Rattle.addr_core.proofs.Changing.{get_set_same, get_set_other}
-use Rattle.addr_core.proofs.Places.{get_there}
-use Rattle.addr_core.proofs.Leaving.{head_in, other_one}
+use Rattle.addr_queue.proofs.Changing.{get_set_same, get_set_other}
+use Rattle.addr_queue.proofs.Places.{get_there}
+use Rattle.addr_queue.proofs.Leaving.{head_in, other_one}
 
 set_same : {X : Type 0} (xs : List X) (n : ℕ) (x : X) → slice_get xs n ≡ Some x → set xs n x ≡ xs
 set_same [] n x is = refl

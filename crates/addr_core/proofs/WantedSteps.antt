@@ -1,5 +1,5 @@
 -- What each event does to what is kept for operations: their rows and the bundles that they need.
-use Rattle.std.proofs.Common.{◌≡◌, inl, inr, ℕ, Bool, true, false, ◌||◌, List, [], ◌∷◌, ◌++◌, length, set, Option, refl, sym, ◌∙◌, ap, arith, length-append}
+use Rattle.std.proofs.Common.{◌≡◌, inl, inr, ℕ, ◌-◌, ◌≤◌, Bool, true, false, ltb, List, [], ◌∷◌, ◌++◌, length, set, Option, refl, sym, ◌∙◌, ap, subst, arith, length-append}
 use Rattle.std.proofs.lemmas.Bool.{false≢true, eq-eqb, ne_eqb, cases_eq, cases_lt}
 use Rattle.std.proofs.lemmas.List.{length-set}
 use Rattle.std.specs.Prelude.{unwrap_or}
@@ -9,26 +9,18 @@ use Rattle.addr_base.specs.declared.ids.RowNo.{RowNo}
 use Rattle.addr_locate.specs.Rows.{Rows}
 use Rattle.addr_history.specs.declared.ask.Ask.{Ask}
 use Rattle.addr_history.specs.declared.event.Event.{Event}
-use Rattle.addr_history.specs.declared.event.Event.TheVariants.{Load, Release, Take, Done, Fail, Close}
+use Rattle.addr_history.specs.declared.event.Event.TheVariants.{Load, Release}
 use Rattle.addr_history.specs.Events.{is_load, is_load_of}
-use Rattle.addr_history.specs.Counts.{has_release, is_unreleased, loads_of}
+use Rattle.addr_history.specs.Counts.{references_of, is_unreleased, loads_of}
 use Rattle.addr_history.specs.Legal.{IsAnswer, Legal}
-use Rattle.addr_history.proofs.Counting.{one_if}
-use Rattle.addr_history.proofs.Legality.{load_facts, unreleased_parts, has_release_push, loads_push, load_below, no_load_past}
+use Rattle.addr_history.proofs.Counting.{one_if, references_given}
+use Rattle.addr_history.proofs.CountSteps.{no_load_of}
+use Rattle.addr_history.proofs.Legality.{load_facts, unreleased_is, unreleased_parts, loads_push, load_below, no_load_past, extend}
 use Rattle.addr_history.proofs.StatusSteps.{found_kept, found_new, needs_kept, needs_new, unreleased_before}
 use Rattle.addr_core.specs.within.Wanting.{nothing, wanted_at, wanted_of, wanted_of_op}
 use Rattle.addr_core.specs.within.Kept.{AreWanted}
-use Rattle.addr_core.proofs.Changing.{get_set_other, get_left, get_end, slice_there}
+use Rattle.addr_queue.proofs.Changing.{get_set_other, get_left, get_end, slice_there}
 use Rattle.addr_core.specs.declared.wanted.Wanted.{Wanted}
-
--- an event that is no Load is no Load of any operation
-pub no_load_of : (e : Event) → is_load e ≡ false → (op : OpId) → is_load_of op e ≡ false
-no_load_of (Load o c k) other op = absurd (false≢true (sym other))
-no_load_of (Release o c) other op = refl
-no_load_of (Take o c) other op = refl
-no_load_of (Done o c) other op = refl
-no_load_of (Fail o c k) other op = refl
-no_load_of Close other op = refl
 
 abbrev pub wanted_by : List RowNo → List BundleNo → Wanted
 wanted_by rows needs = record { rows = rows; needs = needs }
@@ -43,16 +35,16 @@ module _ (rows : Rows) (limit : ℕ) where
       let there = slice_there wanted op.0 (omega (arith, are.many, load_below rows limit h legal op (unreleased_parts h op is).0)) in
       ap (λ (o : Option Wanted). unwrap_or o nothing) there.1 ∙ are.each op there.0 there.1 is
 
-  still : (h : List Event) (e : Event) (op : OpId) → is_load_of op e ≡ false → is_unreleased (h ++ e ∷ []) op ≡ true → (is_unreleased h op ≡ true) × (wanted_of_op rows (h ++ e ∷ []) op ≡ wanted_of_op rows h op)
-  still h e op other now =
-      let was = unreleased_before rows limit h e op other now in
+  still : (h : List Event) (e : Event) → Legal rows limit (h ++ e ∷ []) → (op : OpId) → is_load_of op e ≡ false → is_unreleased (h ++ e ∷ []) op ≡ true → (is_unreleased h op ≡ true) × (wanted_of_op rows (h ++ e ∷ []) op ≡ wanted_of_op rows h op)
+  still h e legal op other now =
+      let was = unreleased_before rows limit h e legal op other now in
       let loaded = (unreleased_parts h op was).0 in
       (was, same_wanted (found_kept rows limit h e op loaded) (needs_kept rows limit h e op loaded))
 
-  pub wanted_calm : (h : List Event) (e : Event) → is_load e ≡ false → (wanted : List Wanted) → AreWanted rows h wanted → AreWanted rows (h ++ e ∷ []) wanted
-  wanted_calm h e other wanted are = record {
+  pub wanted_calm : (h : List Event) (e : Event) → Legal rows limit (h ++ e ∷ []) → is_load e ≡ false → (wanted : List Wanted) → AreWanted rows h wanted → AreWanted rows (h ++ e ∷ []) wanted
+  wanted_calm h e legal other wanted are = record {
     many = let none = ap one_if other in omega (arith, are.many, loads_push h e, none);
-    each = λ op w at now. let before = still h e op (no_load_of e other op) now in are.each op w at before.0 ∙ sym before.1;
+    each = λ op w at now. let before = still h e legal op (no_load_of op e other) now in are.each op w at before.0 ∙ sym before.1;
   }
 
   pub wanted_load : (h : List Event) → Legal rows limit h → (o : OpId) (caller : ℕ) (ask : Ask) → IsAnswer rows limit h (Load o caller ask) → (wanted : List Wanted) → AreWanted rows h wanted → AreWanted rows (h ++ Load o caller ask ∷ []) (wanted ++ wanted_of rows ask ∷ [])
@@ -60,7 +52,7 @@ module _ (rows : Rows) (limit : ℕ) where
     many = omega (arith, length-append wanted (wanted_of rows ask ∷ []), are.many, loads_push h (Load o caller ask));
     each = λ op w at now. elim (cases_lt op.0 (length wanted)) [
       | inl lt ↦
-          let before = still h (Load o caller ask) op (ne_eqb o.0 op.0 (λ same. omega (arith, number, are.many))) now in
+          let before = still h (Load o caller ask) (extend rows limit h (Load o caller ask) legal answer) op (ne_eqb o.0 op.0 (λ same. omega (arith, number, are.many))) now in
           are.each op w (get_left wanted op.0 w (wanted_of rows ask) lt at) before.0 ∙ sym before.1
       | inr le ↦
           let end = get_end wanted op.0 w (wanted_of rows ask) le at in
@@ -73,18 +65,21 @@ module _ (rows : Rows) (limit : ℕ) where
       number : o.0 ≡ loads_of h
       number = (load_facts rows limit h o caller ask answer).number
 
-  pub wanted_release : (h : List Event) (o : OpId) (caller : ℕ) (wanted : List Wanted) → AreWanted rows h wanted → AreWanted rows (h ++ Release o caller ∷ []) (set wanted o.0 nothing)
-  wanted_release h o caller wanted are = record {
+  -- what was kept for an operation is given up with its last reference
+  pub wanted_release : (h : List Event) (o : OpId) (caller : ℕ) → Legal rows limit (h ++ Release o caller ∷ []) → references_of h o ≤ 1 → (wanted : List Wanted) → AreWanted rows h wanted → AreWanted rows (h ++ Release o caller ∷ []) (set wanted o.0 nothing)
+  wanted_release h o caller legal last wanted are = record {
     many = length-set wanted o.0 nothing ∙ calm.many;
     each = λ op w at now. elim (cases_eq op.0 o.0) [
-      | inl same ↦ absurd (false≢true (sym (unreleased_parts (h ++ Release o caller ∷ []) op now).1 ∙ (has_release_push h (Release o caller) op ∙ ap (λ t. has_release h op || t) (eq-eqb o.0 op.0 (sym same)) ∙ or_true (has_release h op))))
+      | inl same ↦ absurd (false≢true (sym (ap (ltb 0) (gone op same)) ∙ sym (unreleased_is (h ++ Release o caller ∷ []) op) ∙ now))
       | inr other ↦ calm.each op w (sym (get_set_other wanted o.0 op.0 nothing other) ∙ at) now
     ];
   }
     where
       calm : AreWanted rows (h ++ Release o caller ∷ []) wanted
-      calm = wanted_calm h (Release o caller) refl wanted are
+      calm = wanted_calm h (Release o caller) legal refl wanted are
 
-      or_true : (t : Bool) → (t || true) ≡ true
-      or_true true = refl
-      or_true false = refl
+      gone : (op : OpId) → op.0 ≡ o.0 → references_of (h ++ Release o caller ∷ []) op ≡ 0
+      gone op same =
+          let few : references_of h op ≤ 1 = subst (λ (p : OpId). references_of h p ≤ 1) (ap (λ n. let r : OpId = record { 0 = n } in r) (sym same)) last in
+          let less : references_of (h ++ Release o caller ∷ []) op ≡ references_of h op - 1 = references_given h o caller op ∙ ap (λ t. references_of h op - one_if t) (eq-eqb op.0 o.0 same) in
+          omega (arith, few, less)

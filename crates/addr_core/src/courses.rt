@@ -1,27 +1,27 @@
 // How far each operation is: one course an operation, by its number.
 ghost use Rattle.std.specs.Prelude.{◌≡◌, ◌+◌, ◌==◌, slice_get, if◌then◌else◌, Ok, Err, unwrap_or};
 ghost use Rattle.addr_history.specs.declared.answers.OpStatus.TheVariants.{Ready, Pending};
-ghost use Rattle.addr_core.specs.within.Changes.{change, change_each};
-ghost use Rattle.addr_core.specs.within.Courses.{woken, failed_by, given_back};
+ghost use Rattle.addr_queue.specs.Changes.{change, change_each};
+ghost use Rattle.addr_core.specs.within.Courses.{woken, failed_by, given_back, acquired};
 
 use addr_base::OpId;
 use addr_history::{NoHandle, OpStatus};
 
-/// How many of an operation's bundles aren't resident, its first failure, and whether it was released.
+/// How many of an operation's bundles aren't resident, its first failure, and how many references it has.
 #[derive(Clone, Copy)]
 pub struct Course {
     pub missing: u32,
     pub failed: Option<OpStatus>,
-    pub released: bool,
+    pub references: u32,
 }
 
 impl Course {
     /// How far the operation is, if it isn't released.
     pub fn status(self) -> Result<OpStatus, NoHandle>
-        ensures { result ≡ (if self.released then Err (record {}) else Ok
+        ensures { result ≡ (if self.references == 0 then Err (record {}) else Ok
             (unwrap_or self.failed (if self.missing == 0 then Ready else Pending))) }
     {
-        if self.released {
+        if self.references == 0 {
             return Err(NoHandle);
         }
         match self.failed {
@@ -41,7 +41,7 @@ impl Course {
         Course {
             missing: self.missing.saturating_sub(1),
             failed: self.failed,
-            released: self.released,
+            references: self.references,
         }
     }
 
@@ -55,19 +55,30 @@ impl Course {
             Course {
                 missing: self.missing,
                 failed: Some(status),
-                released: self.released,
+                references: self.references,
             }
         }
     }
 
-    /// It was released.
+    /// One reference was given back.
     fn given_back(self) -> Course
         ensures { result ≡ given_back self }
     {
         Course {
             missing: self.missing,
             failed: self.failed,
-            released: true,
+            references: self.references.saturating_sub(1),
+        }
+    }
+
+    /// One more reference was taken.
+    fn acquired(self) -> Course
+        ensures { result ≡ acquired self }
+    {
+        Course {
+            missing: self.missing,
+            failed: self.failed,
+            references: self.references.saturating_add(1),
         }
     }
 }
@@ -79,7 +90,7 @@ pub fn course_at(courses: &[Course], op: OpId) -> Option<Course>
     courses.get(op.0 as usize).copied()
 }
 
-#[tactic(auto, using(crate::proofs::Places::change_there, crate::proofs::Places::change_past))]
+#[tactic(auto, using(addr_queue::proofs::Places::change_there, addr_queue::proofs::Places::change_past))]
 fn wake(courses: &mut [Course], op: u32)
     ensures { courses.new ≡ change woken op courses.old }
 {
@@ -89,7 +100,7 @@ fn wake(courses: &mut [Course], op: u32)
     }
 }
 
-#[tactic(auto, using(crate::proofs::Places::change_there, crate::proofs::Places::change_past))]
+#[tactic(auto, using(addr_queue::proofs::Places::change_there, addr_queue::proofs::Places::change_past))]
 fn fail(courses: &mut [Course], op: u32, status: OpStatus)
     ensures { courses.new ≡ change (failed_by status) op courses.old }
 {
@@ -99,14 +110,25 @@ fn fail(courses: &mut [Course], op: u32, status: OpStatus)
     }
 }
 
-/// The operation was released.
-#[tactic(auto, using(crate::proofs::Places::change_there, crate::proofs::Places::change_past))]
+/// The operation has one reference less.
+#[tactic(auto, using(addr_queue::proofs::Places::change_there, addr_queue::proofs::Places::change_past))]
 pub fn give_back(courses: &mut [Course], op: u32)
     ensures { courses.new ≡ change given_back op courses.old }
 {
     let place = op as usize;
     if place < courses.len() {
         courses[place] = courses[place].given_back();
+    }
+}
+
+/// The operation has one reference more.
+#[tactic(auto, using(addr_queue::proofs::Places::change_there, addr_queue::proofs::Places::change_past))]
+pub fn acquire(courses: &mut [Course], op: u32)
+    ensures { courses.new ≡ change acquired op courses.old }
+{
+    let place = op as usize;
+    if place < courses.len() {
+        courses[place] = courses[place].acquired();
     }
 }
 

@@ -1,10 +1,10 @@
 // The images that are kept: a place for each bundle, filled exactly where it is resident.
 ghost use Rattle.std.specs.Prelude.{◌≡◌, Some, None, slice_set};
-ghost use Rattle.addr_core.specs.within.Changes.{cleared_each};
-ghost use Rattle.addr_core.specs.within.Slots.{passes, is_missing};
+ghost use Rattle.addr_queue.specs.Changes.{cleared_each};
+ghost use Rattle.addr_queue.specs.Slots.{passes, is_missing};
 
-use crate::slots::{Slot, is_missing};
 use addr_base::BundleNo;
+use addr_queue::{Slot, is_missing};
 
 /// Puts an image into its bundle's place, if there is one.
 pub fn put<I: Drop>(images: &mut [Option<I>], b: BundleNo, image: I)

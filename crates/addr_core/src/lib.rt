@@ -1,4 +1,4 @@
-//! The loading machine: loads, fetches, failures and releases are events of one journal, and every answer follows from it.
+//! The loading machine: loads, acquires, fetches, failures and releases are events of one journal, from which every answer follows.
 //!
 //! Promise: each call of `Core` answers as the definitions of `addr_history` say of the journal so far, adds exactly its own
 //! event, and a refused call changes nothing; the journal is a legal history.
@@ -12,9 +12,7 @@ mod images;
 mod machine;
 mod now;
 mod prepare;
-mod queueing;
 mod reading;
-mod slots;
 mod start;
 #[cfg(test)]
 mod tests;
@@ -22,6 +20,7 @@ mod waiters;
 mod wanted;
 
 pub use addr_history::{
-    Ask, BundleState, Event, Item2, LoadErr, Next, NoHandle, NotTaken, OpStatus, ReadErr, Settled,
+    AcquireErr, Ask, BundleState, Event, Item2, LoadErr, Next, NoHandle, NotTaken, OpStatus,
+    ReadErr, Settled,
 };
 pub use machine::Core;

@@ -2,36 +2,36 @@
 // `open` and `journal` walks the journal.
 ghost use Rattle.std.specs.Prelude.{◌≡◌, ◌≤◌, ◌<◌, ◌+◌, ◌^◌, ◌∷◌, [], true, false, length, replicate, nat_lt, IfOk, IfSome, OnOk, OnErr, slice_get, Ok};
 ghost use Rattle.addr_locate.specs.Rows.{are_bundles, no_repeats};
-ghost use Rattle.addr_history.specs.Answers.{load_reply, release_reply, release_adds, status_reply, take_reply, take_adds, done_reply, done_adds, fail_reply, fail_adds, close_reply, close_adds, count_reply};
-ghost use Rattle.addr_history.specs.declared.event.Event.TheVariants.{Load, Release, Take, Done, Fail, Close};
+ghost use Rattle.addr_history.specs.Answers.{load_reply, acquire_reply, acquire_adds, release_reply, release_adds, status_reply, take_reply, take_adds, done_reply, done_adds, fail_reply, fail_adds, close_reply, close_adds, count_reply};
+ghost use Rattle.addr_history.specs.declared.event.Event.TheVariants.{Load, Acquire, Release, Take, Done, Fail, Close};
 ghost use Rattle.addr_history.specs.declared.answers.Settled.TheVariants.{Kept};
 ghost use Rattle.addr_core.specs.within.Wanting.{wanted_of};
 ghost use Rattle.addr_history.specs.Legal.{Legal, IsAnswer};
 ghost use Rattle.addr_history.specs.Places.{is_fetched_by, queue};
-ghost use Rattle.addr_history.specs.Counts.{count_of, is_closed, is_unreleased, loads_of};
+ghost use Rattle.addr_history.specs.Counts.{count_of, is_closed, is_unreleased, references_of, loads_of};
 ghost use Rattle.addr_history.specs.Reading.{row_reply};
 ghost use Rattle.addr_core.specs.ReadAll.{AnswersReadAll};
 ghost use Rattle.addr_core.specs.Machine.{Machine, fresh, grown, with_kept, Loads, AnswersRead, HasImages, IdleHaveNone, ImagesFit, ReadyHave};
 
-use crate::courses::{Course, course_at, fail_each, give_back, wake_each};
+use crate::courses::{Course, acquire, course_at, fail_each, give_back, wake_each};
 use crate::images::{clear_each, put};
 use crate::now::Now;
-use crate::prepare::prepare;
-use crate::queueing::{join_each, leave_each};
+use crate::prepare::{may_add, prepare};
 use crate::reading::ready_row;
-use crate::slots::{
-    Slot, end_slot, is_counted, is_taken_by, lacking, let_go_each, slot_at, take_in_each, take_slot,
-};
 use crate::start::{no_images, no_slots, no_waiters, push_within};
 use crate::waiters::{Waiters, clear_waiters, forget_each, make_room_each, wait_each, waiting};
 use crate::wanted::{Wanted, needs_at, row_of, take_wanted};
 use addr_base::{BundleNo, Cause, Image, Items, NoMemory, OpId, RowNo};
 use addr_history::{
-    Ask, BundleState, Event, Item2, LoadErr, Next, NoHandle, NotTaken, OpStatus, ReadErr, Settled,
+    AcquireErr, Ask, BundleState, Event, Item2, LoadErr, Next, NoHandle, NotTaken, OpStatus,
+    ReadErr, Settled,
 };
 use addr_locate::Locator;
 use addr_objects::{read_all_of_asset, read_asset};
-use addr_queue::Queue;
+use addr_queue::{
+    Queue, Slot, end_slot, is_counted, is_taken_by, join_each, lacking, leave_each, let_go_each,
+    slot_at, take_in_each, take_slot,
+};
 use std::alloc::Global;
 use std::marker::Model;
 
@@ -49,7 +49,7 @@ pub struct Core<I: Image + Drop> {
     slots: Vec<Slot>,
     waits: Vec<Waiters>,
     queue: Queue,
-    // how many bundles are being fetched, how many operations are unreleased, whether Close came
+    // how many bundles are being fetched, how many references there are, whether Close came
     fetched: u32,
     opened: u32,
     closed: bool,
@@ -138,7 +138,7 @@ impl<I: Image + Drop> Core<I> {
             Course {
                 missing,
                 failed: None,
-                released: false,
+                references: 1,
             },
         );
         push_within(&mut self.events, Event::Load { op, caller, ask });
@@ -174,17 +174,55 @@ impl<I: Image + Drop> Core<I> {
         }
     }
 
+    #[tactic(auto, unfolding(addr_history::specs::Counts::is_unreleased))]
     fn is_open(&self, op: OpId) -> bool
         ensures { result ≡ is_unreleased self.now.history op }
     {
+        self.references(op) > 0
+    }
+
+    /// How many references an operation has: none where it wasn't opened, or was released as often as it was opened and
+    /// acquired. One step.
+    pub fn references(&self, op: OpId) -> u32
+        ensures { result ≡ references_of self.now.history op }
+    {
         match course_at(self.courses.as_slice(), op) {
-            Some(course) => !course.released,
-            None => false,
+            Some(course) => course.references,
+            None => 0,
         }
     }
 
-    /// Gives an operation back. A bundle whose count falls to zero loses its image or its place in the queue. Steps for each
-    /// bundle that the operation needs.
+    /// Takes one reference more of an unreleased operation. The event and the Release that it owes need room. A few steps.
+    pub fn acquire(&mut self, caller: u32, op: OpId) -> Result<(), AcquireErr>
+        ensures reply { result ≡ acquire_reply self.old.rows self.old.limit self.old.history op }
+        ensures machine { self.new ≡ grown self.old (acquire_adds result caller op) }
+    {
+        self.may_acquire(op)?;
+        self.record_acquire(caller, op);
+        Ok(())
+    }
+
+    #[tactic(auto, unfolding(addr_history::specs::Answers::acquire_reply))]
+    fn may_acquire(&self, op: OpId) -> Result<(), AcquireErr>
+        ensures { result ≡ acquire_reply self.now.rows self.now.limit self.now.history op }
+    {
+        if !self.is_open(op) {
+            return Err(AcquireErr::NoHandle);
+        }
+        may_add(&self.now(), op)
+    }
+
+    fn record_acquire(&mut self, caller: u32, op: OpId)
+        requires { acquire_reply self.old.rows self.old.limit self.old.history op ≡ Ok tt }
+        ensures { self.new ≡ grown self.old (Acquire op caller ∷ []) }
+    {
+        push_within(&mut self.events, Event::Acquire { op, caller });
+        acquire(self.courses.as_mut_slice(), op.0);
+        self.opened += 1;
+    }
+
+    /// Gives a reference of an operation back. With its last one each bundle whose count falls to zero loses its image or its place
+    /// in the queue, in steps for each bundle that the operation needs; else a few steps.
     #[tactic(auto, unfolding(addr_history::specs::Answers::release_reply, addr_history::specs::Answers::release_adds))]
     pub fn release(&mut self, caller: u32, op: OpId) -> Result<(), NoHandle>
         ensures reply { result ≡ release_reply self.old.history op }
@@ -193,12 +231,26 @@ impl<I: Image + Drop> Core<I> {
         if !self.is_open(op) {
             return Err(NoHandle);
         }
+        if self.references(op) > 1 {
+            self.record_release(caller, op);
+            return Ok(());
+        }
         self.let_go(caller, op);
         Ok(())
     }
 
+    fn record_release(&mut self, caller: u32, op: OpId)
+        requires { 1 < references_of self.old.history op }
+        ensures { self.new ≡ grown self.old (Release op caller ∷ []) }
+    {
+        push_within(&mut self.events, Event::Release { op, caller });
+        give_back(self.courses.as_mut_slice(), op.0);
+        self.opened -= 1;
+    }
+
     fn let_go(&mut self, caller: u32, op: OpId)
-        requires { is_unreleased self.old.history op ≡ true }
+        requires unreleased { is_unreleased self.old.history op ≡ true }
+        requires last { references_of self.old.history op ≤ 1 }
         ensures { self.new ≡ grown self.old (Release op caller ∷ []) }
     {
         push_within(&mut self.events, Event::Release { op, caller });

@@ -6,12 +6,12 @@ ghost use Rattle.addr_history.specs.Counts.{is_closed};
 ghost use Rattle.addr_history.specs.Places.{is_absent, is_fetched, bundles_of, queue};
 ghost use Rattle.addr_history.specs.Answers.{reserved};
 ghost use Rattle.addr_core.specs.within.Kept.{IsNow};
-ghost use Rattle.addr_core.specs.within.Slots.{passes, is_out};
+ghost use Rattle.addr_queue.specs.Slots.{passes, is_out};
 
-use crate::slots::{Slot, is_out};
 use addr_base::BundleNo;
 use addr_history::Event;
 use addr_locate::Locator;
+use addr_queue::{Slot, is_out};
 
 /// The journal, the slots of the bundles, and counts of what is queued, fetched and unreleased.
 #[derive(Drop)]

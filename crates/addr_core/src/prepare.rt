@@ -1,17 +1,19 @@
-// All of a load that may fail, and takes memory: which refusal comes first, and what is wanted.
+// All of a load that may fail, and takes memory: which refusal comes first, and what is wanted; and whether one reference more has
+// room.
 ghost use Rattle.std.specs.Prelude.{◌≡◌, ◌+◌, ◌<◌, ◌^◌, not, nat_lt, length, take, if◌then◌else◌, IfOk, IfSome};
 ghost use Rattle.std.specs.List.{list_any, position};
 ghost use Rattle.std.specs.Prelude.{true};
 ghost use Rattle.addr_locate.specs.Rows.{are_bundles};
 ghost use Rattle.addr_locate.specs.Merge.{is_match, merged};
 ghost use Rattle.addr_history.specs.Events.{needs_of};
-ghost use Rattle.addr_history.specs.Answers.{first_missing};
+ghost use Rattle.addr_history.specs.Counts.{is_unreleased};
+ghost use Rattle.addr_history.specs.Answers.{first_missing, acquire_reply};
 ghost use Rattle.addr_core.specs.within.Prepare.{Prepares};
 
 use crate::now::Now;
 use crate::wanted::Wanted;
-use addr_base::{BundleNo, Items, KeyNo, NoMemory, RowNo};
-use addr_history::{Ask, LoadErr};
+use addr_base::{BundleNo, Items, KeyNo, NoMemory, OpId, RowNo};
+use addr_history::{AcquireErr, Ask, LoadErr};
 use addr_locate::{Kind, Locator};
 use std::alloc::Global;
 
@@ -98,6 +100,23 @@ fn rows_of(alloc: Global, ask: &Ask, found: &[RowNo]) -> Result<Items<RowNo>, No
 {
     let rows = Items::copy_of(alloc, chosen(found, ask.all))?;
     Ok(rows)
+}
+
+/// Whether one reference more of an unreleased operation has room, with the Release that it owes.
+pub fn may_add(now: &Now, op: OpId) -> Result<(), AcquireErr>
+    requires { is_unreleased now.now.events.now op ≡ true }
+    ensures { result ≡ acquire_reply now.now.locator.now now.now.limit now.now.events.now op }
+{
+    let used = used(now);
+    let reserved = now.reserved();
+    if passes(now.limit, used, reserved, 2) {
+        return Err(AcquireErr::JournalFull {
+            used,
+            reserved,
+            needed: 2,
+        });
+    }
+    Ok(())
 }
 
 fn used(now: &Now) -> u32

@@ -2,9 +2,9 @@
 ghost use Rattle.std.specs.Prelude.{◌≡◌, ◌+◌, ◌<◌, ◌≤◌, ◌++◌, ◌∷◌, [], None, false, replicate, vec_len, vec_capacity, IfOk};
 ghost use Rattle.addr_core.specs.within.Courses.{waiting_lists};
 
-use crate::slots::Slot;
 use crate::waiters::Waiters;
 use addr_base::NoMemory;
+use addr_queue::Slot;
 use std::alloc::Global;
 
 /// A slot for each bundle, all of them absent.

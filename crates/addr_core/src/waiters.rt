@@ -1,12 +1,12 @@
 // The operations that wait for each bundle: one list a bundle. Room is made before one is added, so that adding takes no memory.
 ghost use Rattle.std.specs.Prelude.{◌≡◌, ◌<◌, ◌++◌, ◌∷◌, [], true, slice_get, slice_set, Some, OnOk, if◌then◌else◌, ℕ, List};
 ghost use Rattle.addr_locate.specs.Rows.{no_repeats};
-ghost use Rattle.addr_core.specs.within.Changes.{change, cleared_each};
+ghost use Rattle.addr_queue.specs.Changes.{change, cleared_each};
 ghost use Rattle.addr_core.specs.within.Courses.{waiting_lists, HasRoom, waited_each, Waiting};
-ghost use Rattle.addr_core.specs.within.Slots.{passes, is_missing, is_idle};
+ghost use Rattle.addr_queue.specs.Slots.{passes, is_missing, is_idle};
 
-use crate::slots::{Slot, is_idle, is_missing};
 use addr_base::{BundleNo, NoMemory};
+use addr_queue::{Slot, is_idle, is_missing};
 use std::alloc::Global;
 use std::marker::Model;
 

@@ -6,7 +6,7 @@ use Rattle.std.specs.List.{list_any}
 use Rattle.addr_base.specs.declared.ids.BundleNo.{BundleNo}
 use Rattle.addr_locate.specs.Rows.{Rows}
 use Rattle.addr_history.specs.declared.event.Event.{Event}
-use Rattle.addr_history.specs.declared.event.Event.TheVariants.{Load, Release, Take, Done, Fail, Close}
+use Rattle.addr_history.specs.declared.event.Event.TheVariants.{Load, Acquire, Release, Take, Done, Fail, Close}
 use Rattle.addr_history.specs.Events.{is_load, is_close, bundle_of}
 use Rattle.addr_history.specs.Counts.{is_closed}
 use Rattle.addr_history.specs.Legal.{IsAnswer, Legal}
@@ -24,6 +24,7 @@ closed_since before mid = list_any-append is_close before (Close ∷ mid) ∙ ri
 module _ (rows : Rows) (limit : ℕ) where
   refused : (h : List Event) (e : Event) → is_closed h ≡ true → IsAnswer rows limit h e → is_load e ≡ false
   refused h (Load op c k) closed answer = absurd (false≢true (sym (load_facts rows limit h op c k answer).opened ∙ closed))
+  refused h (Acquire op c) closed answer = refl
   refused h (Release op c) closed answer = refl
   refused h (Take b w) closed answer = refl
   refused h (Done b w) closed answer = refl
@@ -51,6 +52,7 @@ module _ (rows : Rows) (limit : ℕ) where
 
       at : (x : Event) → IsAnswer rows limit before x → bundle_of x ≡ Some b → b.0 < length rows.bundles
       at (Load op c k) answer given = cc
+      at (Acquire op c) answer given = cc
       at (Release op c) answer given = cc
       at (Take o w) answer given = subst (λ (p : BundleNo). p.0 < length rows.bundles) (same_one b o given) (queued_below rows sound before o (take_facts rows limit before o w answer))
       at (Done o w) answer given = subst (λ (p : BundleNo). p.0 < length rows.bundles) (same_one b o given) (fetched_below rows limit sound before was o (fetched_by_some before o w (done_facts rows limit before o w answer)))

@@ -1,6 +1,6 @@
 -- Legal histories, event by event; the numbers of their operations.
-use Rattle.std.proofs.Common.{◌⊎◌, inl, inr, ◌≡◌, ℕ, ◌+◌, ◌≤◌, ◌<◌, Bool, true, false, ◌||◌, not, cond, ltb, List, [], ◌∷◌, ◌++◌, length, Ok, Err, if◌then◌else◌, refl, sym, ◌∙◌, ap, subst, append_assoc, arith}
-use Rattle.std.proofs.lemmas.Bool.{cases_lt, false≢true, and_parts, ltb-false, ne_eqb, not-true}
+use Rattle.std.proofs.Common.{◌⊎◌, inl, inr, ◌≡◌, ℕ, ◌+◌, ◌-◌, ◌≤◌, ◌<◌, Bool, true, false, ◌||◌, not, cond, ltb, List, [], ◌∷◌, ◌++◌, length, Ok, Err, if◌then◌else◌, refl, sym, ◌∙◌, ap, subst, append_assoc, arith, add-zero, eqb}
+use Rattle.std.proofs.lemmas.Bool.{cases_lt, false≢true, ltb-false, ltb-true, ne_eqb}
 use Rattle.std.proofs.lemmas.List.{append-nil}
 use Rattle.std.proofs.lemmas.List.Sums.{sum_by_push}
 use Rattle.std.specs.List.{list_any}
@@ -9,14 +9,16 @@ use Rattle.addr_base.specs.declared.ids.OpId.{OpId}
 use Rattle.addr_locate.specs.Merge.{merged}
 use Rattle.addr_locate.specs.Rows.{Rows}
 use Rattle.addr_history.specs.declared.ask.Ask.{Ask}
+use Rattle.addr_history.specs.declared.error.AcquireErr.{AcquireErr}
+use Rattle.addr_history.specs.declared.error.AcquireErr.TheVariants as acquires
 use Rattle.addr_history.specs.declared.error.LoadErr.{LoadErr}
 use Rattle.addr_history.specs.declared.error.LoadErr.TheVariants.{Closed, NoLocation, JournalFull}
 use Rattle.addr_history.specs.declared.event.Event.{Event}
-use Rattle.addr_history.specs.declared.event.Event.TheVariants.{Load, Release, Take, Done, Fail, Close}
-use Rattle.addr_history.specs.Events.{is_load, is_load_of, is_release_of}
-use Rattle.addr_history.specs.Counts.{is_closed, has_release, is_unreleased, loads_of}
+use Rattle.addr_history.specs.declared.event.Event.TheVariants.{Load, Acquire, Release, Take, Done, Fail, Close}
+use Rattle.addr_history.specs.Events.{is_load, is_load_of, is_acquire_of, is_release_of}
+use Rattle.addr_history.specs.Counts.{is_closed, acquires_of, releases_of, references_of, is_unreleased, loads_of}
 use Rattle.addr_history.specs.Places.{is_fetched_by}
-use Rattle.addr_history.specs.Answers.{reserved, needed, first_missing, has_no_row, load_reply, load_adds, release_adds, done_adds, fail_adds, close_adds}
+use Rattle.addr_history.specs.Answers.{reserved, needed, first_missing, has_no_row, load_reply, load_adds, acquire_reply, acquire_adds, release_adds, done_adds, fail_adds, close_adds}
 use Rattle.addr_history.specs.Legal.{IsAnswer, Legal}
 use Rattle.addr_history.proofs.Points.{list_any_push}
 
@@ -53,6 +55,29 @@ load_facts rows limit h op caller ask answer = by_closed (is_closed h) refl answ
     by_closed : (t : Bool) → is_closed h ≡ t → load_adds (if t then Err Closed else if has_no_row (merged rows.assets ask.keys ask.mode ask.kind) then Err (NoLocation (first_missing rows ask)) else if ltb limit total then Err full else Ok (record { 0 = loads_of h })) caller ask ≡ Load op caller ask ∷ [] → Loaded rows limit h op ask
     by_closed true is given = absurd (nothing_added _ given)
     by_closed false is given = by_none (has_no_row (merged rows.assets ask.keys ask.mode ask.kind)) is given
+
+-- what an accepted Acquire says
+pub record Acquired (rows : Rows) (limit : ℕ) (h : List Event) (op : OpId) : Type 0 where
+  pub has : is_unreleased h op ≡ true
+  pub room : length h + reserved rows h + 2 ≤ limit
+
+pub acquire_facts : (rows : Rows) (limit : ℕ) (h : List Event) (op : OpId) (caller : ℕ) → IsAnswer rows limit h (Acquire op caller) → Acquired rows limit h op
+unfolding acquire_reply
+acquire_facts rows limit h op caller answer = by_has (is_unreleased h op) refl answer
+  where
+    full : AcquireErr
+    full = acquires.JournalFull (length h) (reserved rows h) 2
+
+    total : ℕ
+    total = length h + reserved rows h + 2
+
+    by_room : (t : Bool) → ltb limit total ≡ t → is_unreleased h op ≡ true → acquire_adds (if t then Err full else Ok tt) caller op ≡ Acquire op caller ∷ [] → Acquired rows limit h op
+    by_room true is has given = absurd (nothing_added _ given)
+    by_room false is has given = record { has = has; room = ltb-false limit total is }
+
+    by_has : (t : Bool) → is_unreleased h op ≡ t → acquire_adds (if not t then Err acquires.NoHandle else if ltb limit total then Err full else Ok tt) caller op ≡ Acquire op caller ∷ [] → Acquired rows limit h op
+    by_has true is given = by_room (ltb limit total) refl is given
+    by_has false is given = absurd (nothing_added _ given)
 
 -- an event that is added on a test alone
 passed : (t : Bool) (e : Event) → (if t then e ∷ [] else []) ≡ e ∷ [] → t ≡ true
@@ -127,17 +152,38 @@ pub loads_push : (h : List Event) (e : Event) → loads_of (h ++ e ∷ []) ≡ l
 unfolding loads_of
 loads_push h e = sum_by_push (λ x. cond (is_load x) 1 0) h e
 
-none_released : (op : OpId) → has_release [] op ≡ false
-unfolding has_release
-none_released op = refl
+none_changed : (op : OpId) → (acquires_of [] op ≡ 0) × (releases_of [] op ≡ 0)
+unfolding acquires_of releases_of
+none_changed op = (refl, refl)
 
-pub has_release_push : (h : List Event) (e : Event) (op : OpId) → has_release (h ++ e ∷ []) op ≡ (has_release h op || is_release_of op e)
-unfolding has_release
-has_release_push h e op = list_any_push (is_release_of op) h e
+pub acquires_push : (h : List Event) (e : Event) (op : OpId) → acquires_of (h ++ e ∷ []) op ≡ acquires_of h op + cond (is_acquire_of op e) 1 0
+unfolding acquires_of
+acquires_push h e op = sum_by_push (λ x. cond (is_acquire_of op x) 1 0) h e
 
-pub unreleased_parts : (h : List Event) (op : OpId) → is_unreleased h op ≡ true → (list_any (is_load_of op) h ≡ true) × (has_release h op ≡ false)
+pub releases_push : (h : List Event) (e : Event) (op : OpId) → releases_of (h ++ e ∷ []) op ≡ releases_of h op + cond (is_release_of op e) 1 0
+unfolding releases_of
+releases_push h e op = sum_by_push (λ x. cond (is_release_of op x) 1 0) h e
+
+-- the references of an operation whose Load is there
+abbrev pub held : List Event → OpId → ℕ
+held h op = 1 + acquires_of h op - releases_of h op
+
+pub references_held : (h : List Event) (op : OpId) → list_any (is_load_of op) h ≡ true → references_of h op ≡ held h op
+unfolding references_of
+references_held h op has = ap (λ t. let n : ℕ = if t then held h op else 0 in n) has
+
+-- an unreleased operation's Load is there, and it has references
+pub unreleased_parts : (h : List Event) (op : OpId) → is_unreleased h op ≡ true → (list_any (is_load_of op) h ≡ true) × (0 < held h op)
+unfolding is_unreleased references_of
+unreleased_parts h op is = by (list_any (is_load_of op) h) is
+  where
+    by : (t : Bool) → ltb 0 (if t then held h op else 0) ≡ true → (t ≡ true) × (0 < held h op)
+    by true given = (refl, ltb-true 0 (held h op) given)
+    by false given = absurd (false≢true given)
+
+pub unreleased_is : (h : List Event) (op : OpId) → is_unreleased h op ≡ ltb 0 (references_of h op)
 unfolding is_unreleased
-unreleased_parts h op is = let parts = and_parts (list_any (is_load_of op) h) (not (has_release h op)) is in (parts.0, not-true (has_release h op) parts.1)
+unreleased_is h op = refl
 
 module _ (rows : Rows) (limit : ℕ) where
   -- a history has no Load of an operation that is still to come
@@ -146,6 +192,7 @@ module _ (rows : Rows) (limit : ℕ) where
     where
       here : (h : List Event) (e : Event) → IsAnswer rows limit h e → (op : OpId) → loads_of h + cond (is_load e) 1 0 ≤ op.0 → is_load_of op e ≡ false
       here h (Load o c k) answer op le = let f = load_facts rows limit h o c k answer in ne_eqb o.0 op.0 (λ same. omega (arith, f.number, same))
+      here h (Acquire o c) answer op le = refl
       here h (Release o c) answer op le = refl
       here h (Take o c) answer op le = refl
       here h (Done o c) answer op le = refl
@@ -168,21 +215,30 @@ module _ (rows : Rows) (limit : ℕ) where
       cases_le : (m n : ℕ) → (m ≤ n) ⊎ (n < m)
       cases_le m n = elim (cases_lt n m) [ inl lt ↦ inr lt | inr le ↦ inl le ]
 
-  -- nor a Release of one
-  pub no_release_past : (h : List Event) → Legal rows limit h → (op : OpId) → loads_of h ≤ op.0 → has_release h op ≡ false
-  no_release_past = by_events rows limit (λ h. (op : OpId) → loads_of h ≤ op.0 → has_release h op ≡ false) (λ op le. none_released op) step
-    where
-      here : (h : List Event) (e : Event) → Legal rows limit h → IsAnswer rows limit h e → (op : OpId) → loads_of h ≤ op.0 → is_release_of op e ≡ false
-      here h (Load o c k) legal answer op le = refl
-      here h (Release o c) legal answer op le =
-          let below : o.0 < loads_of h = load_below h legal o (unreleased_parts h o (release_facts rows limit h o c answer)).0 in
-          ne_eqb o.0 op.0 (λ same. omega arith)
-      here h (Take o c) legal answer op le = refl
-      here h (Done o c) legal answer op le = refl
-      here h (Fail o c k) legal answer op le = refl
-      here h Close legal answer op le = refl
+  -- nor an Acquire or a Release of one
+  abbrev Unchanged : List Event → Type 0
+  Unchanged h = (op : OpId) → loads_of h ≤ op.0 → (acquires_of h op ≡ 0) × (releases_of h op ≡ 0)
 
-      step : (h : List Event) (e : Event) → Legal rows limit h → IsAnswer rows limit h e → ((op : OpId) → loads_of h ≤ op.0 → has_release h op ≡ false) → (op : OpId) → loads_of (h ++ e ∷ []) ≤ op.0 → has_release (h ++ e ∷ []) op ≡ false
+  pub no_change_past : (h : List Event) → Legal rows limit h → Unchanged h
+  no_change_past = by_events rows limit Unchanged (λ op le. none_changed op) step
+    where
+      apart : (h : List Event) → Legal rows limit h → (o op : OpId) → is_unreleased h o ≡ true → loads_of h ≤ op.0 → eqb o.0 op.0 ≡ false
+      apart h legal o op has le =
+          let below : o.0 < loads_of h = load_below h legal o (unreleased_parts h o has).0 in
+          ne_eqb o.0 op.0 (λ same. omega arith)
+
+      here : (h : List Event) (e : Event) → Legal rows limit h → IsAnswer rows limit h e → (op : OpId) → loads_of h ≤ op.0 → (is_acquire_of op e ≡ false) × (is_release_of op e ≡ false)
+      here h (Load o c k) legal answer op le = (refl, refl)
+      here h (Acquire o c) legal answer op le = let f = acquire_facts rows limit h o c answer in (apart h legal o op f.has le, refl)
+      here h (Release o c) legal answer op le = (refl, apart h legal o op (release_facts rows limit h o c answer) le)
+      here h (Take o c) legal answer op le = (refl, refl)
+      here h (Done o c) legal answer op le = (refl, refl)
+      here h (Fail o c k) legal answer op le = (refl, refl)
+      here h Close legal answer op le = (refl, refl)
+
+      step : (h : List Event) (e : Event) → Legal rows limit h → IsAnswer rows limit h e → Unchanged h → Unchanged (h ++ e ∷ [])
       step h e legal answer before op le =
           let less : loads_of h ≤ op.0 = omega (arith, loads_push h e) in
-          has_release_push h e op ∙ ap (λ t. t || is_release_of op e) (before op less) ∙ here h e legal answer op less
+          let none = before op less in
+          let neither = here h e legal answer op less in
+          (acquires_push h e op ∙ ap (λ t. acquires_of h op + cond t 1 0) neither.0 ∙ add-zero (acquires_of h op) ∙ none.0, releases_push h e op ∙ ap (λ t. releases_of h op + cond t 1 0) neither.1 ∙ add-zero (releases_of h op) ∙ none.1)

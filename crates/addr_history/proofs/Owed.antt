@@ -1,5 +1,5 @@
 -- What is used and owed together stays within the limit, at each event of a legal history.
-use Rattle.std.proofs.Common.{◌≡◌, ◌⊎◌, inl, inr, ℕ, ◌+◌, ◌*◌, ◌≤◌, ◌<◌, zero, suc, Bool, true, false, ◌&&◌, ◌||◌, not, eqb, List, [], ◌∷◌, ◌++◌, length, map, refl, sym, ◌∙◌, ap, subst, arith, length-append, if◌then◌else◌, add-zero}
+use Rattle.std.proofs.Common.{◌≡◌, ◌⊎◌, inl, inr, ℕ, ◌+◌, ◌*◌, ◌≤◌, ◌<◌, zero, suc, Bool, true, false, ◌&&◌, ◌||◌, not, eqb, List, [], ◌∷◌, ◌++◌, length, map, refl, sym, ◌∙◌, ap, subst, arith, length-append, if◌then◌else◌}
 use Rattle.std.proofs.lemmas.Bool.{false≢true, and_parts, or_cases, ne_eqb, eq-eqb, cases_eq}
 use Rattle.std.specs.List.{count_by, range_with_len}
 use Rattle.addr_base.specs.declared.ids.BundleNo.{BundleNo}
@@ -7,16 +7,16 @@ use Rattle.addr_base.specs.declared.ids.OpId.{OpId}
 use Rattle.addr_locate.specs.Rows.{Rows}
 use Rattle.addr_history.specs.declared.ask.Ask.{Ask}
 use Rattle.addr_history.specs.declared.event.Event.{Event}
-use Rattle.addr_history.specs.declared.event.Event.TheVariants.{Load, Release, Take, Done, Fail, Close}
-use Rattle.addr_history.specs.Events.{is_in, is_close, is_release_of, is_take_of, is_end_of, needs_of, needs_of_event}
-use Rattle.addr_history.specs.Counts.{is_closed, is_unreleased, is_open_load, open_count}
+use Rattle.addr_history.specs.declared.event.Event.TheVariants.{Load, Acquire, Release, Take, Done, Fail, Close}
+use Rattle.addr_history.specs.Events.{is_in, is_close, is_take_of, is_end_of, needs_of, needs_of_event}
+use Rattle.addr_history.specs.Counts.{is_closed, references_in}
 use Rattle.addr_history.specs.Places.{is_resident, is_fetched, is_fetched_by, is_queued, is_absent, bundles_of}
 use Rattle.addr_history.specs.Answers.{reserved, needed}
 use Rattle.addr_history.specs.Legal.{IsAnswer, Legal}
-use Rattle.addr_history.proofs.Points.{and-true, list_any_push}
+use Rattle.addr_history.proofs.Points.{list_any_push}
 use Rattle.addr_history.proofs.Steps.{counts_on, begins, fetched_push, queued_push}
-use Rattle.addr_history.proofs.Legality.{load_facts, release_facts, done_facts, fail_facts, close_facts, by_events}
-use Rattle.addr_history.proofs.Counting.{one_if, count-cons, count_same, opened, opened_push, opened_load, opened_closed, closed_load}
+use Rattle.addr_history.proofs.Legality.{load_facts, acquire_facts, release_facts, done_facts, fail_facts, close_facts, by_events}
+use Rattle.addr_history.proofs.Counting.{one_if, count-cons, KeepsReferences, held_at, references_calm, references_load, references_acquire, references_release}
 use Rattle.addr_history.proofs.Ranges.{Sound, same_bundle, queued_below, take_facts, fetched_below, fetched_by_some}
 
 -- counts against one another, element by element
@@ -93,10 +93,6 @@ count_chosen p (b ∷ bs) n from =
     at : (c : BundleNo) → one_if (is_in c (b ∷ bs) && p c) ≤ one_if (eqb b.0 c.0 && p c) + one_if (is_in c bs && p c)
     at c = by (eqb b.0 c.0) (is_in c bs) (p c)
 
-open_as : (h : List Event) → open_count h ≡ opened (λ e. true) h
-unfolding open_count
-open_as h = count_same (is_open_load h) (λ x. is_open_load h x && true) (λ x. sym (and-true (is_open_load h x))) h
-
 pub closed_push : (h : List Event) (e : Event) → is_closed (h ++ e ∷ []) ≡ (is_closed h || is_close e)
 unfolding is_closed
 closed_push h e = list_any_push is_close h e
@@ -118,7 +114,7 @@ module _ (rows : Rows) where
   abbrev fetching : List Event → ℕ
   fetching h = count_by (is_fetched h) (bundles_of rows)
 
-  reserved_is : (h : List Event) → reserved rows h ≡ open_count h + 2 * waiting h + fetching h + owed h
+  reserved_is : (h : List Event) → reserved rows h ≡ references_in h + 2 * waiting h + fetching h + owed h
   unfolding reserved
   reserved_is h = refl
 
@@ -240,17 +236,8 @@ module _ (rows : Rows) where
       at c = subst (λ t. one_if t + one_if (eqb b.0 c.0) ≤ one_if (is_fetched h c)) (sym (is c)) (by (is_fetched h c) (eqb b.0 c.0) (λ same. subst (λ d. is_fetched h d ≡ true) (same_bundle b c same) fetched))
 
 module _ (rows : Rows) (limit : ℕ) where
-  pub open_load : (h : List Event) → Legal rows limit h → (op : OpId) (caller : ℕ) (ask : Ask) → IsAnswer rows limit h (Load op caller ask) → open_count (h ++ Load op caller ask ∷ []) ≡ open_count h + 1
-  open_load h legal op caller ask answer = open_as (h ++ Load op caller ask ∷ []) ∙ opened_load rows limit (λ e. true) h legal op caller ask answer ∙ ap (λ n. n + 1) (sym (open_as h))
-
-  pub open_release : (h : List Event) → Legal rows limit h → (op : OpId) (caller : ℕ) → is_unreleased h op ≡ true → open_count (h ++ Release op caller ∷ []) + 1 ≡ open_count h
-  open_release h legal op caller is =
-      let closed = closed_load rows limit h op is in
-      ap (λ n. n + 1) (open_as (h ++ Release op caller ∷ [])) ∙ opened_closed rows limit (λ e. true) h legal op caller closed.0 closed.1.0 closed.1.1 ∙ sym (open_as h)
-
-  pub open_same : (h : List Event) (e : Event) → ((op : OpId) → is_release_of op e ≡ false) → is_open_load h e ≡ false → open_count (h ++ e ∷ []) ≡ open_count h
-  open_same h e release load =
-      open_as (h ++ e ∷ []) ∙ opened_push (λ x. true) h e release ∙ ap (λ t. opened (λ x. true) h + one_if (t && true)) load ∙ add-zero (opened (λ x. true) h) ∙ sym (open_as h)
+  pub references_same : (h : List Event) (e : Event) → KeepsReferences e → held_at h e ≡ 0 → references_in (h ++ e ∷ []) ≡ references_in h
+  references_same h e calm none = omega (arith, references_calm h e calm, none)
 
   owed_load : (h : List Event) → Legal rows limit h → (op : OpId) (caller : ℕ) (ask : Ask) → IsAnswer rows limit h (Load op caller ask) → reserved rows (h ++ Load op caller ask ∷ []) + 1 ≤ reserved rows h + needed rows h ask
   unfolding needed
@@ -260,13 +247,27 @@ module _ (rows : Rows) (limit : ℕ) where
         arith,
         reserved_is rows h,
         reserved_is rows (h ++ e ∷ []),
-        open_load h legal op caller ask answer,
+        references_load rows limit h legal op caller ask answer,
         waiting_load rows h op caller ask,
         fetching_falls rows h e (λ b. refl),
         owed_same h e refl,
       )
 
-  -- an event that isn't a Load was owed
+  owed_acquire : (h : List Event) → Legal rows limit h → (op : OpId) (caller : ℕ) → IsAnswer rows limit h (Acquire op caller) → reserved rows (h ++ Acquire op caller ∷ []) ≤ reserved rows h + 1
+  owed_acquire h legal op caller answer =
+      let e = Acquire op caller in
+      let f = acquire_facts rows limit h op caller answer in
+      omega (
+        arith,
+        reserved_is rows h,
+        reserved_is rows (h ++ e ∷ []),
+        references_acquire rows limit h legal op caller f.has,
+        waiting_falls rows h e (λ b. refl),
+        fetching_falls rows h e (λ b. refl),
+        owed_same h e refl,
+      )
+
+  -- an event that isn't a Load or an Acquire was owed
   abbrev WasOwed : List Event → Event → Type 0
   WasOwed h e = reserved rows (h ++ e ∷ []) + 1 ≤ reserved rows h
 
@@ -277,7 +278,7 @@ module _ (rows : Rows) (limit : ℕ) where
         arith,
         reserved_is rows h,
         reserved_is rows (h ++ e ∷ []),
-        open_release h legal op caller (release_facts rows limit h op caller answer),
+        references_release rows limit h legal op caller (release_facts rows limit h op caller answer),
         waiting_falls rows h e (λ b. refl),
         fetching_falls rows h e (λ b. refl),
         owed_same h e refl,
@@ -291,20 +292,20 @@ module _ (rows : Rows) (limit : ℕ) where
         arith,
         reserved_is rows h,
         reserved_is rows (h ++ e ∷ []),
-        open_same h e (λ o. refl) refl,
+        references_same h e (λ o. (refl, refl)) refl,
         waiting_take rows h b worker queued (queued_below rows sound h b queued),
         fetching_take rows h b worker,
         owed_same h e refl,
       )
 
-  owed_end : Sound rows → (h : List Event) → Legal rows limit h → (e : Event) (b : BundleNo) (worker : ℕ) → is_fetched_by h b worker ≡ true → ((c : BundleNo) → is_end_of c e ≡ eqb b.0 c.0) → ((c : BundleNo) → is_take_of c e ≡ false) → ((c : BundleNo) → is_in c (needs_of_event rows e) ≡ false) → ((op : OpId) → is_release_of op e ≡ false) → is_open_load h e ≡ false → is_close e ≡ false → WasOwed h e
-  owed_end sound h legal e b worker by ends takes asks release load close =
+  owed_end : Sound rows → (h : List Event) → Legal rows limit h → (e : Event) (b : BundleNo) (worker : ℕ) → is_fetched_by h b worker ≡ true → ((c : BundleNo) → is_end_of c e ≡ eqb b.0 c.0) → ((c : BundleNo) → is_take_of c e ≡ false) → ((c : BundleNo) → is_in c (needs_of_event rows e) ≡ false) → KeepsReferences e → held_at h e ≡ 0 → is_close e ≡ false → WasOwed h e
+  owed_end sound h legal e b worker by ends takes asks calm none close =
       let fetched = fetched_by_some h b worker by in
       omega (
         arith,
         reserved_is rows h,
         reserved_is rows (h ++ e ∷ []),
-        open_same h e release load,
+        references_same h e calm none,
         waiting_falls rows h e asks,
         fetching_ends rows h e b ends takes fetched (fetched_below rows limit sound h legal b fetched),
         owed_same h e close,
@@ -319,17 +320,18 @@ module _ (rows : Rows) (limit : ℕ) where
         arith,
         reserved_is rows h,
         reserved_is rows (h ++ Close ∷ []),
-        open_same h Close (λ o. refl) refl,
+        references_same h Close (λ o. (refl, refl)) refl,
         waiting_falls rows h Close (λ b. refl),
         fetching_falls rows h Close (λ b. refl),
       )
 
   pub owed_event : Sound rows → (h : List Event) → Legal rows limit h → (e : Event) → IsAnswer rows limit h e → length h + reserved rows h ≤ limit → length (h ++ e ∷ []) + reserved rows (h ++ e ∷ []) ≤ limit
   owed_event sound h legal (Load op c k) answer le = let f = load_facts rows limit h op c k answer in omega (arith, length-append h (Load op c k ∷ []), owed_load h legal op c k answer, f.room)
+  owed_event sound h legal (Acquire o c) answer le = let f = acquire_facts rows limit h o c answer in omega (arith, length-append h (Acquire o c ∷ []), owed_acquire h legal o c answer, f.room)
   owed_event sound h legal (Release o c) answer le = omega (arith, length-append h (Release o c ∷ []), owed_release h legal o c answer)
   owed_event sound h legal (Take o c) answer le = omega (arith, length-append h (Take o c ∷ []), owed_take sound h o c answer)
-  owed_event sound h legal (Done o c) answer le = omega (arith, length-append h (Done o c ∷ []), owed_end sound h legal (Done o c) o c (done_facts rows limit h o c answer) (λ d. refl) (λ d. refl) (λ d. refl) (λ d. refl) refl refl)
-  owed_event sound h legal (Fail o c k) answer le = omega (arith, length-append h (Fail o c k ∷ []), owed_end sound h legal (Fail o c k) o c (fail_facts rows limit h o c k answer) (λ d. refl) (λ d. refl) (λ d. refl) (λ d. refl) refl refl)
+  owed_event sound h legal (Done o c) answer le = omega (arith, length-append h (Done o c ∷ []), owed_end sound h legal (Done o c) o c (done_facts rows limit h o c answer) (λ d. refl) (λ d. refl) (λ d. refl) (λ d. (refl, refl)) refl refl)
+  owed_event sound h legal (Fail o c k) answer le = omega (arith, length-append h (Fail o c k ∷ []), owed_end sound h legal (Fail o c k) o c (fail_facts rows limit h o c k answer) (λ d. refl) (λ d. refl) (λ d. refl) (λ d. (refl, refl)) refl refl)
   owed_event sound h legal Close answer le = omega (arith, length-append h (Close ∷ []), owed_close h answer)
 
 nothing_waits : (rows : Rows) (bs : List BundleNo) → (count_by (is_queued rows []) bs ≡ 0) × (count_by (is_fetched []) bs ≡ 0)
@@ -337,7 +339,7 @@ unfolding is_queued is_fetched
 nothing_waits rows bs = (count_none bs, count_none bs)
 
 reserved_first : (rows : Rows) → reserved rows [] ≡ 1
-unfolding reserved open_count is_closed
+unfolding reserved references_in is_closed
 reserved_first rows = let none = nothing_waits rows (bundles_of rows) in omega (arith, none.0, none.1)
 
 -- a legal history never passes the limit

@@ -22,7 +22,7 @@ use Rattle.addr_history.proofs.Ranges.{Sound, same_bundle, queued_below}
 use Rattle.addr_history.proofs.Members.{members}
 use Rattle.addr_history.proofs.Owed.{numbers, count_in_range, count_one}
 use Rattle.addr_history.proofs.QueueSteps.{filter_all, filter_within, in_queue, stays, joins, queue_push, queued_counted}
-use Rattle.addr_history.proofs.CountSteps.{IsCalm, count_calm, count_load}
+use Rattle.addr_history.proofs.CountSteps.{IsCalm, take_calm, count_calm, count_load}
 
 module _ (rows : Rows) (limit : ℕ) where
   -- an event that asks for nothing
@@ -62,7 +62,7 @@ module _ (rows : Rows) (limit : ℕ) where
   queue_take h o w legal =
       queue_kept h (Take o w) refl
       ∙ filter_within (stays rows h (Take o w)) (λ c. not (eqb c.0 o.0)) (queue rows h) (λ b is.
-      ap (λ n. not (eqb o.0 b.0) && ltb 0 n) (count_calm rows h (Take o w) b (refl, λ op. refl))
+      ap (λ n. not (eqb o.0 b.0) && ltb 0 n) (count_calm rows h (Take o w) b (take_calm h o w))
       ∙ ap (λ t. not (eqb o.0 b.0) && t) (queued_counted rows limit h (prefix rows limit h (Take o w ∷ []) legal) b (sym (in_queue rows h b) ∙ is))
       ∙ and-true (not (eqb o.0 b.0))
       ∙ ap not (turned o.0 b.0))
@@ -73,7 +73,7 @@ module _ (rows : Rows) (limit : ℕ) where
         | inr other ↦ ne_eqb a b other ∙ sym (ne_eqb b a (λ same. other (sym same)))
       ]
 
-  pub queue_calm : (h : List Event) (e : Event) → Legal rows limit (h ++ e ∷ []) → needs_of_event rows e ≡ [] → ((b : BundleNo) → is_take_of b e ≡ false) → IsCalm e → queue rows (h ++ e ∷ []) ≡ queue rows h
+  pub queue_calm : (h : List Event) (e : Event) → Legal rows limit (h ++ e ∷ []) → needs_of_event rows e ≡ [] → ((b : BundleNo) → is_take_of b e ≡ false) → IsCalm h e → queue rows (h ++ e ∷ []) ≡ queue rows h
   queue_calm h e legal nothing take calm =
       queue_kept h e nothing
       ∙ filter_all (stays rows h e) (queue rows h) (λ b is.

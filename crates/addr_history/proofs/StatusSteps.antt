@@ -1,6 +1,6 @@
 -- What each event does to the status of an operation that isn't released: its first failure, and how many of its bundles aren't resident.
-use Rattle.std.proofs.Common.{◌≡◌, inl, inr, ℕ, ◌+◌, ◌<◌, Bool, true, false, ◌&&◌, ◌||◌, not, cond, eqb, List, [], ◌∷◌, ◌++◌, Option, Some, None, refl, sym, ◌∙◌, ap, subst, arith, find}
-use Rattle.std.proofs.lemmas.Bool.{false≢true, and_parts, eq-eqb, ne_eqb, lt-ltb, not-true, cases_eq}
+use Rattle.std.proofs.Common.{◌≡◌, inl, inr, ℕ, ◌+◌, ltb, ◌<◌, Bool, true, false, ◌&&◌, ◌||◌, not, cond, eqb, List, [], ◌∷◌, ◌++◌, Option, Some, None, refl, sym, ◌∙◌, ap, subst, arith, find}
+use Rattle.std.proofs.lemmas.Bool.{false≢true, and_parts, eq-eqb, ne_eqb, lt-ltb, not-true, cases_eq, cases_Bool}
 use Rattle.std.proofs.lemmas.List.Folds.{find-append}
 use Rattle.std.specs.List.{list_any, count_by}
 use Rattle.std.specs.Option.{option_or, option_map_or}
@@ -10,17 +10,17 @@ use Rattle.addr_locate.specs.Rows.{Rows, no_repeats}
 use Rattle.addr_history.specs.declared.ask.Ask.{Ask}
 use Rattle.addr_history.specs.declared.answers.OpStatus.TheVariants.{Failed}
 use Rattle.addr_history.specs.declared.event.Event.{Event}
-use Rattle.addr_history.specs.declared.event.Event.TheVariants.{Load, Release, Take, Done, Fail, Close}
-use Rattle.addr_history.specs.Events.{is_in, is_load_of, is_release_of, is_take_of, is_done_of, is_end_of, needs_of, needs_of_event, rows_of_ask, rows_of_event}
-use Rattle.addr_history.specs.Counts.{has_release, is_unreleased, count_of, needs_of_op, rows_of_op}
+use Rattle.addr_history.specs.declared.event.Event.TheVariants.{Load, Acquire, Release, Take, Done, Fail, Close}
+use Rattle.addr_history.specs.Events.{is_in, is_load_of, is_acquire_of, is_take_of, is_done_of, is_end_of, needs_of, needs_of_event, rows_of_ask, rows_of_event}
+use Rattle.addr_history.specs.Counts.{is_unreleased, count_of, needs_of_op, rows_of_op}
 use Rattle.addr_history.specs.Places.{is_resident, is_fetched, is_fetched_by, is_queued}
 use Rattle.addr_history.specs.Status.{since_load, first_failure}
 use Rattle.addr_history.specs.Legal.{IsAnswer, Legal}
 use Rattle.addr_history.proofs.Points.{list_any_push, and-true, or-false}
 use Rattle.addr_history.proofs.Steps.{counts_on, begins, fetched_push, resident_push, queued_push}
 use Rattle.addr_history.proofs.Ranges.{same_bundle, take_facts, fetched_by_some}
-use Rattle.addr_history.proofs.Legality.{done_facts, fail_facts, by_events, has_release_push, unreleased_parts}
-use Rattle.addr_history.proofs.Counting.{one_if, count-cons, find_some, find_none, closed_load, opened_closed}
+use Rattle.addr_history.proofs.Legality.{acquire_facts, done_facts, fail_facts, by_events, acquires_push, releases_push, held, references_held, unreleased_is, unreleased_parts}
+use Rattle.addr_history.proofs.Counting.{one_if, count-cons, find_some, find_none, closed_load, opened_some, same_op}
 use Rattle.addr_history.proofs.QueueSteps.{needs_once}
 
 -- events after a Load
@@ -43,6 +43,7 @@ since_new op (x ∷ h) e none this = by (is_load_of op x) none (since_new op h e
 failure_append : (bs : List BundleNo) (xs ys : List Event) → first_failure bs (xs ++ ys) ≡ option_or (first_failure bs xs) (first_failure bs ys)
 failure_append bs [] ys = refl
 failure_append bs (Load op c k ∷ xs) ys = failure_append bs xs ys
+failure_append bs (Acquire o c ∷ xs) ys = failure_append bs xs ys
 failure_append bs (Release o c ∷ xs) ys = failure_append bs xs ys
 failure_append bs (Take o c ∷ xs) ys = failure_append bs xs ys
 failure_append bs (Done o c ∷ xs) ys = failure_append bs xs ys
@@ -130,20 +131,27 @@ module _ (rows : Rows) (limit : ℕ) where
   needed_counted h legal op b is asked =
       let closed = closed_load rows limit h op is in
       let picks : is_in b (needs_of_event rows closed.0) ≡ true = ap (λ (o : Option Event). is_in b (option_map_or (needs_of_event rows) o [])) (sym closed.1.0) ∙ asked in
-      let one : one_if (is_in b (needs_of_event rows closed.0)) ≡ 1 = ap one_if picks in
-      omega (arith, opened_closed rows limit (λ e. is_in b (needs_of_event rows e)) h legal op 0 closed.0 closed.1.0 closed.1.1)
+      omega (arith, opened_some (λ e. is_in b (needs_of_event rows e)) (is_load_of op) h closed.0 closed.1.0 closed.1.1 picks)
 
-  pub unreleased_before : (h : List Event) (e : Event) (op : OpId) → is_load_of op e ≡ false → is_unreleased (h ++ e ∷ []) op ≡ true → is_unreleased h op ≡ true
-  unfolding is_unreleased
-  unreleased_before h e op other is =
-      let parts = unreleased_parts (h ++ e ∷ []) op is in
-      let loaded : list_any (is_load_of op) h ≡ true = sym (list_any_push (is_load_of op) h e ∙ ap (λ t. list_any (is_load_of op) h || t) other ∙ or-false (list_any (is_load_of op) h)) ∙ parts.0 in
-      let kept : has_release h op ≡ false = first (has_release h op) (is_release_of op e) (sym (has_release_push h e op) ∙ parts.1) in
-      ap (λ t. t && not (has_release h op)) loaded ∙ ap not kept
+  pub unreleased_before : (h : List Event) (e : Event) → Legal rows limit (h ++ e ∷ []) → (op : OpId) → is_load_of op e ≡ false → is_unreleased (h ++ e ∷ []) op ≡ true → is_unreleased h op ≡ true
+  unreleased_before h e legal op other is = elim (cases_Bool (is_acquire_of op e)) [
+    | inl this ↦ by_acquire e (legal.answers h e [] refl) this
+    | inr none ↦
+        let parts = unreleased_parts (h ++ e ∷ []) op is in
+        let loaded : list_any (is_load_of op) h ≡ true = sym (list_any_push (is_load_of op) h e ∙ ap (λ t. list_any (is_load_of op) h || t) other ∙ or-false (list_any (is_load_of op) h)) ∙ parts.0 in
+        let pos : 0 < held (h ++ e ∷ []) op = parts.1 in
+        let no_more : one_if (is_acquire_of op e) ≡ 0 = ap one_if none in
+        unreleased_is h op ∙ ap (ltb 0) (references_held h op loaded) ∙ lt-ltb 0 (held h op) (omega (arith, acquires_push h e op, releases_push h e op))
+  ]
     where
-      first : (s t : Bool) → (s || t) ≡ false → s ≡ false
-      first true t is = is
-      first false t is = refl
+      by_acquire : (x : Event) → IsAnswer rows limit h x → is_acquire_of op x ≡ true → is_unreleased h op ≡ true
+      by_acquire (Acquire o c) answer this = let f = acquire_facts rows limit h o c answer in subst (λ (w : OpId). is_unreleased h w ≡ true) (same_op o op this) f.has
+      by_acquire (Load o c k) answer this = absurd (false≢true this)
+      by_acquire (Release o c) answer this = absurd (false≢true this)
+      by_acquire (Take o c) answer this = absurd (false≢true this)
+      by_acquire (Done o c) answer this = absurd (false≢true this)
+      by_acquire (Fail o c k) answer this = absurd (false≢true this)
+      by_acquire Close answer this = absurd (false≢true this)
 
   module _ (h : List Event) (e : Event) (legal : Legal rows limit (h ++ e ∷ [])) (op : OpId) (now : is_unreleased (h ++ e ∷ []) op ≡ true) (was : is_unreleased h op ≡ true) where
     loaded : list_any (is_load_of op) h ≡ true
@@ -226,6 +234,7 @@ module _ (rows : Rows) (limit : ℕ) where
 
       three : (h : List Event) (e : Event) → IsAnswer rows limit h e → (b : BundleNo) → Apart rows h b → Three ((is_resident rows h b || is_done_of b e) && counts_on rows h e b) ((is_fetched h b && not (is_end_of b e)) || is_take_of b e) (((is_queued rows h b && not (is_take_of b e)) || begins rows h e b) && counts_on rows h e b)
       three h (Load op c k) answer b was = keep_other (is_resident rows h b) (is_fetched h b) (is_queued rows h b) (is_in b (needs_of_event rows (Load op c k))) (counts_on rows h (Load op c k) b) was
+      three h (Acquire o c) answer b was = keep_other (is_resident rows h b) (is_fetched h b) (is_queued rows h b) false (counts_on rows h (Acquire o c) b) was
       three h (Release o c) answer b was = keep_other (is_resident rows h b) (is_fetched h b) (is_queued rows h b) false (counts_on rows h (Release o c) b) was
       three h (Take o w) answer b was = taken h o w b answer (eqb o.0 b.0) refl was
       three h (Done o w) answer b was = ended h (Done o w) o w b (done_facts rows limit h o w answer) (eqb o.0 b.0) refl (eqb o.0 b.0) (λ is. is) was

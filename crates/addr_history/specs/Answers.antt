@@ -17,18 +17,20 @@ use Rattle.addr_history.specs.declared.answers.OpStatus.{OpStatus}
 use Rattle.addr_history.specs.declared.answers.Settled.{Settled}
 use Rattle.addr_history.specs.declared.answers.Settled.TheVariants.{Kept, Dropped}
 use Rattle.addr_history.specs.declared.ask.Ask.{Ask}
+use Rattle.addr_history.specs.declared.error.AcquireErr.{AcquireErr}
+use Rattle.addr_history.specs.declared.error.AcquireErr.TheVariants as acquires
 use Rattle.addr_history.specs.declared.error.LoadErr.{LoadErr}
 use Rattle.addr_history.specs.declared.error.LoadErr.TheVariants.{Closed, NoLocation, JournalFull}
 use Rattle.addr_history.specs.declared.event.Event.{Event}
-use Rattle.addr_history.specs.declared.event.Event.TheVariants.{Load, Release, Take, Done, Fail, Close}
+use Rattle.addr_history.specs.declared.event.Event.TheVariants.{Load, Acquire, Release, Take, Done, Fail, Close}
 use Rattle.addr_history.specs.Events.{needs_of}
-use Rattle.addr_history.specs.Counts.{is_closed, is_unreleased, loads_of, open_count, count_of}
+use Rattle.addr_history.specs.Counts.{is_closed, is_unreleased, loads_of, references_in, count_of}
 use Rattle.addr_history.specs.Places.{is_fetched, is_fetched_by, is_queued, is_absent, queue, state_of, bundles_of}
 use Rattle.addr_history.specs.Status.{status_of}
 
--- the events that are still owed: a Release of each operation, a Take and an end for each queued bundle, an end for each that is fetched, the Close
+-- the events that are still owed: a Release of each reference, a Take and an end for each queued bundle, an end for each that is fetched, the Close
 unfoldable pub reserved : Rows → List Event → ℕ
-reserved rows h = open_count h + 2 * count_by (is_queued rows h) (bundles_of rows) + count_by (is_fetched h) (bundles_of rows) + (if is_closed h then 0 else 1)
+reserved rows h = references_in h + 2 * count_by (is_queued rows h) (bundles_of rows) + count_by (is_fetched h) (bundles_of rows) + (if is_closed h then 0 else 1)
 
 -- the events that an ask would need: its Load and Release, and a Take and an end for each absent bundle
 unfoldable pub needed : Rows → List Event → Ask → ℕ
@@ -55,6 +57,17 @@ abbrev pub load_adds : Result OpId LoadErr → ℕ → Ask → List Event
 load_adds (Ok op) caller ask = Load op caller ask ∷ []
 load_adds (Err _) caller ask = []
 
+-- acquire: only an unreleased operation, and where its Acquire and one Release more have room
+unfoldable pub acquire_reply : Rows → ℕ → List Event → OpId → Result (Unit {0}) AcquireErr
+acquire_reply rows limit h op =
+    if not (is_unreleased h op) then Err acquires.NoHandle
+    else if nat_lt limit (length h + reserved rows h + 2) then Err (acquires.JournalFull (length h) (reserved rows h) 2)
+    else Ok tt
+
+abbrev pub acquire_adds : Result (Unit {0}) AcquireErr → ℕ → OpId → List Event
+acquire_adds (Ok _) caller op = Acquire op caller ∷ []
+acquire_adds (Err _) caller op = []
+
 -- release: only an unreleased operation
 unfoldable pub release_reply : List Event → OpId → Result (Unit {0}) NoHandle
 release_reply h op = if is_unreleased h op then Ok tt else Err (record {})
@@ -72,7 +85,8 @@ take_reply rows h = option_map_or Bundle (slice_get (queue rows h) 0) (if is_clo
 
 abbrev pub take_adds : Next → ℕ → List Event
 take_adds (Bundle b) worker = Take b worker ∷ []
-take_adds _ worker = []
+take_adds Idle worker = []
+take_adds End worker = []
 
 -- done: kept where the bundle's count is positive; the image comes back where that worker doesn't fetch the bundle
 unfoldable pub done_reply : {I : Type 0} → Rows → List Event → ℕ → BundleNo → I → Result Settled I

@@ -13,18 +13,22 @@ use Rattle.addr_history.specs.declared.answers.NotTaken.{NotTaken}
 use Rattle.addr_history.specs.declared.answers.OpStatus.{OpStatus}
 use Rattle.addr_history.specs.declared.answers.Settled.{Settled}
 use Rattle.addr_history.specs.declared.ask.Ask.{Ask}
+use Rattle.addr_history.specs.declared.error.AcquireErr.{AcquireErr}
 use Rattle.addr_history.specs.declared.error.LoadErr.{LoadErr}
 use Rattle.addr_history.specs.declared.event.Event.{Event}
 use Rattle.addr_history.specs.declared.reading.Item2.{Item2}
 use Rattle.addr_history.specs.declared.reading.ReadErr.{ReadErr}
-use Rattle.addr_history.specs.Answers.{load_reply, load_adds, release_reply, release_adds, status_reply, take_reply, take_adds, done_reply, done_adds, fail_reply, fail_adds, close_reply, close_adds, count_reply}
+use Rattle.addr_history.specs.Answers.{load_reply, load_adds, acquire_reply, acquire_adds, release_reply, release_adds, status_reply, take_reply, take_adds, done_reply, done_adds, fail_reply, fail_adds, close_reply, close_adds, count_reply}
+use Rattle.addr_history.specs.Counts.{references_of}
 use Rattle.addr_history.specs.Reading.{Reads}
 use Rattle.addr_history.specs.Unfolding.{ReadsAll}
 
 -- a call with its arguments; a `done` without its image
 pub data Call : Type 0 where
   load : ℕ → Ask → Call
+  acquire : ℕ → OpId → Call
   release : ℕ → OpId → Call
+  references : OpId → Call
   status : OpId → Call
   read : OpId → ℕ → Call
   read_all : OpId → ℕ → Call
@@ -37,7 +41,9 @@ pub data Call : Type 0 where
 -- what a call may be answered; the image that comes back from a `done` is left out
 abbrev pub AnswerOf : Call → Type 0
 AnswerOf (load caller ask) = Result OpId LoadErr
+AnswerOf (acquire caller op) = Result (Unit {0}) AcquireErr
 AnswerOf (release caller op) = Result (Unit {0}) NoHandle
+AnswerOf (references op) = ℕ
 AnswerOf (status op) = Result OpStatus NoHandle
 AnswerOf (read op i) = Result (List ℕ) ReadErr
 AnswerOf (read_all op i) = Result (List Item2) ReadErr
@@ -50,7 +56,9 @@ AnswerOf (count b) = Option (ℕ × BundleState)
 -- what a call is answered at a history, over what the images hold
 abbrev pub IsAnswered : (BundleNo → List ℕ → Option Object) → Rows → ℕ → List Event → (call : Call) → AnswerOf call → Type 0
 IsAnswered objects rows limit h (load caller ask) answer = answer ≡ load_reply rows limit h ask
+IsAnswered objects rows limit h (acquire caller op) answer = answer ≡ acquire_reply rows limit h op
 IsAnswered objects rows limit h (release caller op) answer = answer ≡ release_reply h op
+IsAnswered objects rows limit h (references op) answer = answer ≡ references_of h op
 IsAnswered objects rows limit h (status op) answer = answer ≡ status_reply rows h op
 IsAnswered objects rows limit h (read op i) answer = Reads objects rows h op i answer
 IsAnswered objects rows limit h (read_all op i) answer = ReadsAll objects rows h op i answer
@@ -63,7 +71,9 @@ IsAnswered objects rows limit h (count b) answer = answer ≡ count_reply rows h
 -- the events that a call adds to a history
 abbrev pub added_by : List Event → (call : Call) → AnswerOf call → List Event
 added_by h (load caller ask) answer = load_adds answer caller ask
+added_by h (acquire caller op) answer = acquire_adds answer caller op
 added_by h (release caller op) answer = release_adds h caller op
+added_by h (references op) answer = []
 added_by h (status op) answer = []
 added_by h (read op i) answer = []
 added_by h (read_all op i) answer = []

@@ -12,15 +12,17 @@ use Rattle.addr_locate.specs.declared.rows.Kind.{Kind}
 use Rattle.addr_locate.specs.declared.rows.Kind.TheVariants.{Any, Unknown}
 use Rattle.addr_locate.specs.declared.rows.Merge.{Merge}
 use Rattle.addr_locate.specs.declared.rows.Merge.TheVariants.{UseFirst, Union, Intersection}
-use Rattle.addr_history.specs.declared.answers.BundleState.TheVariants.{Resident, Fetching, Absent}
+use Rattle.addr_history.specs.declared.answers.BundleState.TheVariants.{Resident, Fetching, Queued, Absent}
 use Rattle.addr_history.specs.declared.answers.Next.TheVariants.{Bundle, Idle, End}
 use Rattle.addr_history.specs.declared.answers.OpStatus.TheVariants.{Pending, Ready, Failed}
 use Rattle.addr_history.specs.declared.answers.Settled.TheVariants.{Kept, Dropped}
 use Rattle.addr_history.specs.declared.ask.Ask.{Ask}
+use Rattle.addr_history.specs.declared.error.AcquireErr.TheVariants as acquires
 use Rattle.addr_history.specs.declared.error.LoadErr.TheVariants.{Closed, NoLocation, JournalFull}
 use Rattle.addr_history.specs.declared.event.Event.{Event}
-use Rattle.addr_history.specs.declared.event.Event.TheVariants.{Load, Release, Take, Done, Fail, Close}
-use Rattle.addr_history.specs.Answers.{load_reply, release_reply, status_reply, take_reply, done_reply, close_reply, count_reply}
+use Rattle.addr_history.specs.declared.event.Event.TheVariants.{Load, Acquire, Release, Take, Done, Fail, Close}
+use Rattle.addr_history.specs.Counts.{references_of}
+use Rattle.addr_history.specs.Answers.{load_reply, acquire_reply, release_reply, status_reply, take_reply, done_reply, close_reply, count_reply}
 
 abbrev pub bundle : List ℕ → ℕ → BundleRow
 bundle name size = record { key = name; size = size; digest = record { 0 = [] }; name = name; id = name }
@@ -137,3 +139,26 @@ pub record Filled : Type 0 where
   pub close : close_reply (filled ++ Release (op 0) 0 ∷ []) ≡ true
   pub closed : close_reply (filled ++ Release (op 0) 0 ∷ Close ∷ []) ≡ false
   pub refused : load_reply sample 5 (filled ++ Release (op 0) 0 ∷ Close ∷ []) (one tree) ≡ Err Closed
+
+-- an operation that is acquired once more: it stays until its second Release
+abbrev pub held_twice : List Event
+held_twice = filled ++ Acquire (op 0) 0 ∷ []
+
+abbrev pub held_once : List Event
+held_once = held_twice ++ Release (op 0) 0 ∷ []
+
+abbrev pub let_go : List Event
+let_go = held_once ++ Release (op 0) 0 ∷ []
+
+pub record Acquired : Type 0 where
+  pub first : load_reply sample 7 [] (one tree) ≡ Ok (op 0)
+  pub more : acquire_reply sample 7 filled (op 0) ≡ Ok tt
+  pub full : acquire_reply sample 7 held_twice (op 0) ≡ Err (acquires.JournalFull 2 5 2)
+  pub two : references_of held_twice (op 0) ≡ 2
+  pub released : release_reply held_twice (op 0) ≡ Ok tt
+  pub queued : count_reply sample held_once a ≡ Some (1, Queued)
+  pub released_again : release_reply held_once (op 0) ≡ Ok tt
+  pub absent : count_reply sample let_go a ≡ Some (0, Absent)
+  pub no_release : release_reply let_go (op 0) ≡ Err (record {})
+  pub no_acquire : acquire_reply sample 7 let_go (op 0) ≡ Err acquires.NoHandle
+  pub fuller : acquire_reply sample 6 filled (op 0) ≡ Err (acquires.JournalFull 1 4 2)

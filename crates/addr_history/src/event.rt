@@ -1,6 +1,6 @@
 // What the journal is made of. An event is plain data, so that definitions over histories need no second set of records.
 ghost use Rattle.std.specs.Prelude.{◌≡◌};
-ghost use Rattle.addr_history.specs.Events.{number_of, is_load, is_load_of, is_release_of, is_close, is_take_of, is_take_by, is_done_of, is_end_of};
+ghost use Rattle.addr_history.specs.Events.{number_of, is_load, is_load_of, is_acquire_of, is_release_of, is_close, is_take_of, is_take_by, is_done_of, is_end_of};
 
 use crate::ask::Ask;
 use addr_base::{BundleNo, Cause, OpId};
@@ -14,7 +14,12 @@ pub enum Event {
         caller: u32,
         ask: Ask,
     },
-    /// A caller gave an operation back.
+    /// A caller took one more reference of an operation.
+    Acquire {
+        op: OpId,
+        caller: u32,
+    },
+    /// A caller gave a reference of an operation back.
     Release {
         op: OpId,
         caller: u32,
@@ -46,6 +51,7 @@ impl Event {
     {
         match self {
             Event::Load { caller, .. } => Some(*caller),
+            Event::Acquire { caller, .. } => Some(*caller),
             Event::Release { caller, .. } => Some(*caller),
             Event::Take { worker, .. } => Some(*worker),
             Event::Done { worker, .. } => Some(*worker),
@@ -70,7 +76,17 @@ impl Event {
         }
     }
 
-    /// Whether it is the Release of that operation.
+    /// Whether it is an Acquire of that operation.
+    pub fn is_acquire_of(&self, op: OpId) -> bool
+        ensures { result ≡ is_acquire_of op self.now }
+    {
+        match self {
+            Event::Acquire { op: acquired, .. } => acquired.0 == op.0,
+            _ => false,
+        }
+    }
+
+    /// Whether it is a Release of that operation.
     pub fn is_release_of(&self, op: OpId) -> bool
         ensures { result ≡ is_release_of op self.now }
     {

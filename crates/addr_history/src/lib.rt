@@ -16,7 +16,7 @@ mod reading;
 
 pub use answers::{BundleState, Next, NoHandle, NotTaken, OpStatus, Settled};
 pub use ask::Ask;
-pub use error::LoadErr;
+pub use error::{AcquireErr, LoadErr};
 pub use event::Event;
-pub use laws::{legal_histories, one_answer, worked_examples};
+pub use laws::{legal_histories, one_answer, without_acquires, worked_examples};
 pub use reading::{Item2, Place, ReadErr};

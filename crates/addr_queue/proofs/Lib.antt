@@ -1,3 +1,6 @@
+pub mod Changing
+pub mod Leaving
 pub mod Members
+pub mod Places
 pub mod Queues
 pub mod Rings

@@ -1,2 +1,4 @@
+pub mod Changes
 pub mod Queue
+pub mod Slots
 pub mod within

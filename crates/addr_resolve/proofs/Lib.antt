@@ -15,3 +15,4 @@ pub mod KeyLemmas
 pub mod RowLemmas
 pub mod ResolveLemmas
 pub mod OnceLemmas
+pub mod AnswerLemmas

@@ -42,7 +42,7 @@ OneCab = (file : List ℕ) (b : Bundle) (name other : Digest) (objects others : 
     → IsCab file b name objects → IsCab file b other others → (name ≡ other) × (objects ≡ others)
 
 -- partners that are determined make one list
-zip-one : {A B : Type 0} (R : A → B → Type 0) → ((x : A) → AtMostOne (R x)) → (xs : List A) → AtMostOne (AllZip R xs)
+pub zip-one : {A B : Type 0} (R : A → B → Type 0) → ((x : A) → AtMostOne (R x)) → (xs : List A) → AtMostOne (AllZip R xs)
 zip-one R each [] [] [] first second = refl
 zip-one R each [] [] (z ∷ zs) first second = absurd second
 zip-one R each [] (y ∷ ys) zs first second = absurd first
@@ -54,17 +54,17 @@ item_total : IsTotalOrder item_cmp
 item_total = on_total (λ (i : Item). i.guid.0) nat_list_cmp_total
 
 -- a bundle's file is one of the files
-file-bytes : (files : List MemFile) (folder key file : List ℕ) → AreFiles files → bundle_file files folder key ≡ Some file → AreBytes file × (length file < 2 ^ 63)
+pub file-bytes : (files : List MemFile) (folder key file : List ℕ) → AreFiles files → bundle_file files folder key ≡ Some file → AreBytes file × (length file < 2 ^ 63)
 file-bytes files folder key file are at = by_side (file_at (side_path folder false key) files) refl at
   where
     by_side : (near : Option (List ℕ)) → file_at (side_path folder false key) files ≡ near → option_or near (file_at (side_path folder true key) files) ≡ Some file → AreBytes file × (length file < 2 ^ 63)
     by_side None is there = are (side_path folder true key) file there
     by_side (Some bytes) is there = are (side_path folder false key) file (is ∙ there)
 
-same-bundle : (file other : List ℕ) (b d : Bundle) → file ≡ other → bundle_read file ≡ Ok b → bundle_read other ≡ Ok d → b ≡ d
+pub same-bundle : (file other : List ℕ) (b d : Bundle) → file ≡ other → bundle_read file ≡ Ok b → bundle_read other ≡ Ok d → b ≡ d
 same-bundle file other b d same first second = let e = sym first ∙ (ap bundle_read same ∙ second) in cc e
 
-one-opened : Meant → OneCab → (files : List MemFile) (folder : List ℕ) → AreFiles files → (row : BundleRow) → AtMostOne (IsOpened files folder row)
+pub one-opened : Meant → OneCab → (files : List MemFile) (folder : List ℕ) → AreFiles files → (row : BundleRow) → AtMostOne (IsOpened files folder row)
 one-opened meant one files folder are row x y (f, f-at, (name, (b, b-read, cab)), x-name) (g, g-at, (other, (d, d-read, cab2)), y-name) =
     let same : f ≡ g = same-some f g (sym f-at ∙ g-at) in
     let bundles : b ≡ d = same-bundle f g b d same b-read d-read in
@@ -73,7 +73,7 @@ one-opened meant one files folder are row x y (f, f-at, (name, (b, b-read, cab))
     let objects = (one f b name other x.objects y.objects bytes.1 ((meant f b bytes.0 bytes.1).1 b-read) cab again).1 in
     ap₂ (λ n os. let o : Opened = record { name = n; objects = os } in o) (x-name ∙ sym y-name) objects
 
-one-row : (r : Rows) (opened : List Opened) (a : AssetRow) → AtMostOne (ResolvesRow r opened a)
+pub one-row : (r : Rows) (opened : List Opened) (a : AssetRow) → AtMostOne (ResolvesRow r opened a)
 one-row r opened a x y (first, first-at, are, id, kind, items) (second, second-at, are2, id2, kind2, items2) =
     let firsts : first ≡ second = same-some first second (sym first-at ∙ second-at) in
     let bytes : x.guid.0 ≡ y.guid.0 = decoded_same (hex_of x.guid.0) x.guid.0 y.guid.0 (spelled_decodes (hex_of x.guid.0) x.guid.0 are refl) are2 (sym id ∙ id2) in

@@ -47,13 +47,13 @@ opened-lost files folder r cabs numbers assets key guid opens are does =
 
 -- ---- the steps together
 
-zip-length : {A B : Type 0} (R : A → B → Type 0) (xs : List A) (ys : List B) → AllZip R xs ys → length xs ≡ length ys
+pub zip-length : {A B : Type 0} (R : A → B → Type 0) (xs : List A) (ys : List B) → AllZip R xs ys → length xs ≡ length ys
 zip-length R [] [] zip = refl
 zip-length R [] (b ∷ bs) zip = absurd zip
 zip-length R (a ∷ as') [] zip = absurd zip
 zip-length R (a ∷ as') (b ∷ bs) zip = ap suc (zip-length R as' bs zip.1)
 
-same-length : (rows : List Resolved) → length (map row_view rows) ≡ length rows
+pub same-length : (rows : List Resolved) → length (map row_view rows) ≡ length rows
 same-length [] = refl
 same-length (r ∷ rs) = ap suc (same-length rs)
 

@@ -29,7 +29,7 @@ pub use error::{BundleFault, OpenErr, ResolveErr};
 pub use graph::PlaceRow;
 pub use graphing::graph_of;
 pub use items::{Item, items_of};
-pub use laws::resolve_is_one;
+pub use laws::{answer_is_one, resolve_is_one};
 pub use losing::least_lost;
 pub use opening::open_all;
 pub use picking::picks_of;

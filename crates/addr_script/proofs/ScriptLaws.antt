@@ -23,10 +23,9 @@ use Rattle.addr_script.proofs.WordLemmas.{all_free, kind_free, mode_free, no_mar
 use Rattle.addr_script.specs.Causes.{cause_text, IsGivenCause}
 use Rattle.addr_base.specs.declared.var.Var.{Var}
 use Rattle.addr_script.specs.Commands.{asked_keys_field, kind_field, mode_word, one_or_all, set_line, spell, AreTexts, IsCommand, IsKind, IsSet}
-use Rattle.addr_script.specs.Scripts.{body_lines, IsScript, IsFirstBad, IsLimit, limit_lines}
+use Rattle.addr_script.specs.Scripts.{body_lines, IsScript, IsFirstBad, IsLimit, Script, limit_lines}
 use Rattle.addr_script.specs.declared.command.Command.{Command}
-use Rattle.addr_script.specs.declared.command.Command.TheVariants.{Load, Release, Status, Read, ReadAll, Count, Close, Take, Done, Fail}
-use Rattle.addr_script.specs.declared.script.Script.{Script}
+use Rattle.addr_script.specs.declared.command.Command.TheVariants.{Load, Acquire, Release, Status, References, Read, ReadAll, Count, Close, Take, Done, Fail}
 
 -- What begins a script
 
@@ -197,8 +196,10 @@ word_mark short = 0
 
 spell_own : (a b : Command) → IsCommand a → IsCommand b → spell a ≡ spell b → a ≡ b
 spell_own (Load caller all mode kind keys) (Load caller_2 all_2 mode_2 kind_2 keys_2) is other e = load_own caller caller_2 all all_2 mode mode_2 kind kind_2 keys keys_2 is other e
+spell_own (Load caller all mode kind keys) (Acquire caller_2 op_2) is other e = absurd (apart 348 414 refl (ap word_mark e))
 spell_own (Load caller all mode kind keys) (Release caller_2 op_2) is other e = absurd (apart 348 420 refl (ap word_mark e))
 spell_own (Load caller all mode kind keys) (Status op_2) is other e = absurd (apart 348 445 refl (ap word_mark e))
+spell_own (Load caller all mode kind keys) (References op_2) is other e = absurd (apart 348 349 refl (ap word_mark e))
 spell_own (Load caller all mode kind keys) (Read op_2 i_2) is other e = absurd (apart 348 344 refl (ap word_mark e))
 spell_own (Load caller all mode kind keys) (ReadAll op_2 i_2) is other e = absurd (apart 348 409 refl (ap word_mark e))
 spell_own (Load caller all mode kind keys) (Count b_2) is other e = absurd (apart 348 443 refl (ap word_mark e))
@@ -206,11 +207,27 @@ spell_own (Load caller all mode kind keys) Close is other e = absurd (apart 348 
 spell_own (Load caller all mode kind keys) (Take worker_2) is other e = absurd (apart 348 352 refl (ap word_mark e))
 spell_own (Load caller all mode kind keys) (Done worker_2 b_2) is other e = absurd (apart 348 353 refl (ap word_mark e))
 spell_own (Load caller all mode kind keys) (Fail worker_2 b_2 cause_2) is other e = absurd (apart 348 336 refl (ap word_mark e))
+spell_own (Acquire caller op) (Load caller_2 all_2 mode_2 kind_2 keys_2) is other e = absurd (apart 414 348 refl (ap word_mark e))
+spell_own (Acquire caller op) (Acquire caller_2 op_2) is other e =
+    let same = number_then_own caller caller_2 (decimal op.0) (decimal op_2.0) is.0 other.0 (append_cancel_left (codes "acquire ") (decimal caller ++ 32 ∷ decimal op.0) (decimal caller_2 ++ 32 ∷ decimal op_2.0) e) in
+    cc (same.0, op_own op op_2 is.1 other.1 same.1)
+spell_own (Acquire caller op) (Release caller_2 op_2) is other e = absurd (apart 414 420 refl (ap word_mark e))
+spell_own (Acquire caller op) (Status op_2) is other e = absurd (apart 414 445 refl (ap word_mark e))
+spell_own (Acquire caller op) (References op_2) is other e = absurd (apart 414 349 refl (ap word_mark e))
+spell_own (Acquire caller op) (Read op_2 i_2) is other e = absurd (apart 414 344 refl (ap word_mark e))
+spell_own (Acquire caller op) (ReadAll op_2 i_2) is other e = absurd (apart 414 409 refl (ap word_mark e))
+spell_own (Acquire caller op) (Count b_2) is other e = absurd (apart 414 443 refl (ap word_mark e))
+spell_own (Acquire caller op) Close is other e = absurd (apart 414 419 refl (ap word_mark e))
+spell_own (Acquire caller op) (Take worker_2) is other e = absurd (apart 414 352 refl (ap word_mark e))
+spell_own (Acquire caller op) (Done worker_2 b_2) is other e = absurd (apart 414 353 refl (ap word_mark e))
+spell_own (Acquire caller op) (Fail worker_2 b_2 cause_2) is other e = absurd (apart 414 336 refl (ap word_mark e))
 spell_own (Release caller op) (Load caller_2 all_2 mode_2 kind_2 keys_2) is other e = absurd (apart 420 348 refl (ap word_mark e))
+spell_own (Release caller op) (Acquire caller_2 op_2) is other e = absurd (apart 420 414 refl (ap word_mark e))
 spell_own (Release caller op) (Release caller_2 op_2) is other e =
     let same = number_then_own caller caller_2 (decimal op.0) (decimal op_2.0) is.0 other.0 (append_cancel_left (codes "release ") (decimal caller ++ 32 ∷ decimal op.0) (decimal caller_2 ++ 32 ∷ decimal op_2.0) e) in
     cc (same.0, op_own op op_2 is.1 other.1 same.1)
 spell_own (Release caller op) (Status op_2) is other e = absurd (apart 420 445 refl (ap word_mark e))
+spell_own (Release caller op) (References op_2) is other e = absurd (apart 420 349 refl (ap word_mark e))
 spell_own (Release caller op) (Read op_2 i_2) is other e = absurd (apart 420 344 refl (ap word_mark e))
 spell_own (Release caller op) (ReadAll op_2 i_2) is other e = absurd (apart 420 409 refl (ap word_mark e))
 spell_own (Release caller op) (Count b_2) is other e = absurd (apart 420 443 refl (ap word_mark e))
@@ -219,8 +236,10 @@ spell_own (Release caller op) (Take worker_2) is other e = absurd (apart 420 352
 spell_own (Release caller op) (Done worker_2 b_2) is other e = absurd (apart 420 353 refl (ap word_mark e))
 spell_own (Release caller op) (Fail worker_2 b_2 cause_2) is other e = absurd (apart 420 336 refl (ap word_mark e))
 spell_own (Status op) (Load caller_2 all_2 mode_2 kind_2 keys_2) is other e = absurd (apart 445 348 refl (ap word_mark e))
+spell_own (Status op) (Acquire caller_2 op_2) is other e = absurd (apart 445 414 refl (ap word_mark e))
 spell_own (Status op) (Release caller_2 op_2) is other e = absurd (apart 445 420 refl (ap word_mark e))
 spell_own (Status op) (Status op_2) is other e = ap Status (op_own op op_2 is other (append_cancel_left (codes "status ") (decimal op.0) (decimal op_2.0) e))
+spell_own (Status op) (References op_2) is other e = absurd (apart 445 349 refl (ap word_mark e))
 spell_own (Status op) (Read op_2 i_2) is other e = absurd (apart 445 344 refl (ap word_mark e))
 spell_own (Status op) (ReadAll op_2 i_2) is other e = absurd (apart 445 409 refl (ap word_mark e))
 spell_own (Status op) (Count b_2) is other e = absurd (apart 445 443 refl (ap word_mark e))
@@ -228,9 +247,23 @@ spell_own (Status op) Close is other e = absurd (apart 445 419 refl (ap word_mar
 spell_own (Status op) (Take worker_2) is other e = absurd (apart 445 352 refl (ap word_mark e))
 spell_own (Status op) (Done worker_2 b_2) is other e = absurd (apart 445 353 refl (ap word_mark e))
 spell_own (Status op) (Fail worker_2 b_2 cause_2) is other e = absurd (apart 445 336 refl (ap word_mark e))
+spell_own (References op) (Load caller_2 all_2 mode_2 kind_2 keys_2) is other e = absurd (apart 349 348 refl (ap word_mark e))
+spell_own (References op) (Acquire caller_2 op_2) is other e = absurd (apart 349 414 refl (ap word_mark e))
+spell_own (References op) (Release caller_2 op_2) is other e = absurd (apart 349 420 refl (ap word_mark e))
+spell_own (References op) (Status op_2) is other e = absurd (apart 349 445 refl (ap word_mark e))
+spell_own (References op) (References op_2) is other e = ap References (op_own op op_2 is other (append_cancel_left (codes "refs ") (decimal op.0) (decimal op_2.0) e))
+spell_own (References op) (Read op_2 i_2) is other e = absurd (apart 349 344 refl (ap word_mark e))
+spell_own (References op) (ReadAll op_2 i_2) is other e = absurd (apart 349 409 refl (ap word_mark e))
+spell_own (References op) (Count b_2) is other e = absurd (apart 349 443 refl (ap word_mark e))
+spell_own (References op) Close is other e = absurd (apart 349 419 refl (ap word_mark e))
+spell_own (References op) (Take worker_2) is other e = absurd (apart 349 352 refl (ap word_mark e))
+spell_own (References op) (Done worker_2 b_2) is other e = absurd (apart 349 353 refl (ap word_mark e))
+spell_own (References op) (Fail worker_2 b_2 cause_2) is other e = absurd (apart 349 336 refl (ap word_mark e))
 spell_own (Read op i) (Load caller_2 all_2 mode_2 kind_2 keys_2) is other e = absurd (apart 344 348 refl (ap word_mark e))
+spell_own (Read op i) (Acquire caller_2 op_2) is other e = absurd (apart 344 414 refl (ap word_mark e))
 spell_own (Read op i) (Release caller_2 op_2) is other e = absurd (apart 344 420 refl (ap word_mark e))
 spell_own (Read op i) (Status op_2) is other e = absurd (apart 344 445 refl (ap word_mark e))
+spell_own (Read op i) (References op_2) is other e = absurd (apart 344 349 refl (ap word_mark e))
 spell_own (Read op i) (Read op_2 i_2) is other e =
     let same = number_then_own op.0 op_2.0 (decimal i) (decimal i_2) is.0 other.0 (append_cancel_left (codes "read ") (decimal op.0 ++ 32 ∷ decimal i) (decimal op_2.0 ++ 32 ∷ decimal i_2) e) in
     let ops = ap {B = OpId} (λ (n : ℕ). record { 0 = n }) same.0 in
@@ -242,8 +275,10 @@ spell_own (Read op i) (Take worker_2) is other e = absurd (apart 344 352 refl (a
 spell_own (Read op i) (Done worker_2 b_2) is other e = absurd (apart 344 353 refl (ap word_mark e))
 spell_own (Read op i) (Fail worker_2 b_2 cause_2) is other e = absurd (apart 344 336 refl (ap word_mark e))
 spell_own (ReadAll op i) (Load caller_2 all_2 mode_2 kind_2 keys_2) is other e = absurd (apart 409 348 refl (ap word_mark e))
+spell_own (ReadAll op i) (Acquire caller_2 op_2) is other e = absurd (apart 409 414 refl (ap word_mark e))
 spell_own (ReadAll op i) (Release caller_2 op_2) is other e = absurd (apart 409 420 refl (ap word_mark e))
 spell_own (ReadAll op i) (Status op_2) is other e = absurd (apart 409 445 refl (ap word_mark e))
+spell_own (ReadAll op i) (References op_2) is other e = absurd (apart 409 349 refl (ap word_mark e))
 spell_own (ReadAll op i) (Read op_2 i_2) is other e = absurd (apart 409 344 refl (ap word_mark e))
 spell_own (ReadAll op i) (ReadAll op_2 i_2) is other e =
     let same = number_then_own op.0 op_2.0 (decimal i) (decimal i_2) is.0 other.0 (append_cancel_left (codes "readall ") (decimal op.0 ++ 32 ∷ decimal i) (decimal op_2.0 ++ 32 ∷ decimal i_2) e) in
@@ -255,8 +290,10 @@ spell_own (ReadAll op i) (Take worker_2) is other e = absurd (apart 409 352 refl
 spell_own (ReadAll op i) (Done worker_2 b_2) is other e = absurd (apart 409 353 refl (ap word_mark e))
 spell_own (ReadAll op i) (Fail worker_2 b_2 cause_2) is other e = absurd (apart 409 336 refl (ap word_mark e))
 spell_own (Count b) (Load caller_2 all_2 mode_2 kind_2 keys_2) is other e = absurd (apart 443 348 refl (ap word_mark e))
+spell_own (Count b) (Acquire caller_2 op_2) is other e = absurd (apart 443 414 refl (ap word_mark e))
 spell_own (Count b) (Release caller_2 op_2) is other e = absurd (apart 443 420 refl (ap word_mark e))
 spell_own (Count b) (Status op_2) is other e = absurd (apart 443 445 refl (ap word_mark e))
+spell_own (Count b) (References op_2) is other e = absurd (apart 443 349 refl (ap word_mark e))
 spell_own (Count b) (Read op_2 i_2) is other e = absurd (apart 443 344 refl (ap word_mark e))
 spell_own (Count b) (ReadAll op_2 i_2) is other e = absurd (apart 443 409 refl (ap word_mark e))
 spell_own (Count b) (Count b_2) is other e = ap Count (bundle_own b b_2 is other (append_cancel_left (codes "count ") (decimal b.0) (decimal b_2.0) e))
@@ -265,8 +302,10 @@ spell_own (Count b) (Take worker_2) is other e = absurd (apart 443 352 refl (ap 
 spell_own (Count b) (Done worker_2 b_2) is other e = absurd (apart 443 353 refl (ap word_mark e))
 spell_own (Count b) (Fail worker_2 b_2 cause_2) is other e = absurd (apart 443 336 refl (ap word_mark e))
 spell_own Close (Load caller_2 all_2 mode_2 kind_2 keys_2) is other e = absurd (apart 419 348 refl (ap word_mark e))
+spell_own Close (Acquire caller_2 op_2) is other e = absurd (apart 419 414 refl (ap word_mark e))
 spell_own Close (Release caller_2 op_2) is other e = absurd (apart 419 420 refl (ap word_mark e))
 spell_own Close (Status op_2) is other e = absurd (apart 419 445 refl (ap word_mark e))
+spell_own Close (References op_2) is other e = absurd (apart 419 349 refl (ap word_mark e))
 spell_own Close (Read op_2 i_2) is other e = absurd (apart 419 344 refl (ap word_mark e))
 spell_own Close (ReadAll op_2 i_2) is other e = absurd (apart 419 409 refl (ap word_mark e))
 spell_own Close (Count b_2) is other e = absurd (apart 419 443 refl (ap word_mark e))
@@ -275,8 +314,10 @@ spell_own Close (Take worker_2) is other e = absurd (apart 419 352 refl (ap word
 spell_own Close (Done worker_2 b_2) is other e = absurd (apart 419 353 refl (ap word_mark e))
 spell_own Close (Fail worker_2 b_2 cause_2) is other e = absurd (apart 419 336 refl (ap word_mark e))
 spell_own (Take worker) (Load caller_2 all_2 mode_2 kind_2 keys_2) is other e = absurd (apart 352 348 refl (ap word_mark e))
+spell_own (Take worker) (Acquire caller_2 op_2) is other e = absurd (apart 352 414 refl (ap word_mark e))
 spell_own (Take worker) (Release caller_2 op_2) is other e = absurd (apart 352 420 refl (ap word_mark e))
 spell_own (Take worker) (Status op_2) is other e = absurd (apart 352 445 refl (ap word_mark e))
+spell_own (Take worker) (References op_2) is other e = absurd (apart 352 349 refl (ap word_mark e))
 spell_own (Take worker) (Read op_2 i_2) is other e = absurd (apart 352 344 refl (ap word_mark e))
 spell_own (Take worker) (ReadAll op_2 i_2) is other e = absurd (apart 352 409 refl (ap word_mark e))
 spell_own (Take worker) (Count b_2) is other e = absurd (apart 352 443 refl (ap word_mark e))
@@ -285,8 +326,10 @@ spell_own (Take worker) (Take worker_2) is other e = ap Take (number_own worker 
 spell_own (Take worker) (Done worker_2 b_2) is other e = absurd (apart 352 353 refl (ap word_mark e))
 spell_own (Take worker) (Fail worker_2 b_2 cause_2) is other e = absurd (apart 352 336 refl (ap word_mark e))
 spell_own (Done worker b) (Load caller_2 all_2 mode_2 kind_2 keys_2) is other e = absurd (apart 353 348 refl (ap word_mark e))
+spell_own (Done worker b) (Acquire caller_2 op_2) is other e = absurd (apart 353 414 refl (ap word_mark e))
 spell_own (Done worker b) (Release caller_2 op_2) is other e = absurd (apart 353 420 refl (ap word_mark e))
 spell_own (Done worker b) (Status op_2) is other e = absurd (apart 353 445 refl (ap word_mark e))
+spell_own (Done worker b) (References op_2) is other e = absurd (apart 353 349 refl (ap word_mark e))
 spell_own (Done worker b) (Read op_2 i_2) is other e = absurd (apart 353 344 refl (ap word_mark e))
 spell_own (Done worker b) (ReadAll op_2 i_2) is other e = absurd (apart 353 409 refl (ap word_mark e))
 spell_own (Done worker b) (Count b_2) is other e = absurd (apart 353 443 refl (ap word_mark e))
@@ -297,8 +340,10 @@ spell_own (Done worker b) (Done worker_2 b_2) is other e =
     cc (same.0, bundle_own b b_2 is.1 other.1 same.1)
 spell_own (Done worker b) (Fail worker_2 b_2 cause_2) is other e = absurd (apart 353 336 refl (ap word_mark e))
 spell_own (Fail worker b cause) (Load caller_2 all_2 mode_2 kind_2 keys_2) is other e = absurd (apart 336 348 refl (ap word_mark e))
+spell_own (Fail worker b cause) (Acquire caller_2 op_2) is other e = absurd (apart 336 414 refl (ap word_mark e))
 spell_own (Fail worker b cause) (Release caller_2 op_2) is other e = absurd (apart 336 420 refl (ap word_mark e))
 spell_own (Fail worker b cause) (Status op_2) is other e = absurd (apart 336 445 refl (ap word_mark e))
+spell_own (Fail worker b cause) (References op_2) is other e = absurd (apart 336 349 refl (ap word_mark e))
 spell_own (Fail worker b cause) (Read op_2 i_2) is other e = absurd (apart 336 344 refl (ap word_mark e))
 spell_own (Fail worker b cause) (ReadAll op_2 i_2) is other e = absurd (apart 336 409 refl (ap word_mark e))
 spell_own (Fail worker b cause) (Count b_2) is other e = absurd (apart 336 443 refl (ap word_mark e))

@@ -1,24 +1,26 @@
 -- From the lines that were read to the script, and from the line that wasn't to the first bad line.
-use Rattle.std.proofs.Common.{◌≡◌, ◌==◌, ◌+◌, ◌-◌, ◌≤◌, ℕ, List, [], ◌∷◌, ◌++◌, true, false, refl, arith, ap, sym, ◌∙◌, map, Option, Some, None, IfSome, Err, take, drop, length, length-append, append_assoc, codes, decimal}
+use Rattle.std.proofs.Common.{◌≡◌, ◌==◌, ◌+◌, ◌-◌, ◌≤◌, ℕ, List, [], ◌∷◌, ◌++◌, true, false, refl, arith, ap, sym, ◌∙◌, map, Option, Some, None, IfSome, Ok, Err, take, drop, length, length-append, append_assoc, codes, decimal}
 use Rattle.std.specs.List.{AllByRecursion}
 use Rattle.std.proofs.lemmas.Bool.{false≢true}
 use Rattle.std.proofs.lemmas.List.{length-map, take_at, take-append-drop, length-take-le}
 use Rattle.addr_base.specs.declared.var.Var.{Var}
 use Rattle.addr_script.specs.Commands.{set_line, spell, IsCommand, IsSet, ReadsCommand, ReadsSet}
 use Rattle.addr_fields.specs.Lines.{lines_of}
-use Rattle.addr_script.specs.ScriptParts.{AreCommands, IsBadFrom, HasLimit, HasSets, ReadsFrom}
+use Rattle.addr_script.specs.ScriptParts.{AreCommands, BeginsScript, IsBadFrom, HasLimit, HasSets, ReadsFrom}
 use Rattle.addr_script.specs.Scripts.{body_lines, IsScript, IsFirstBad, IsLimit, ReadsScript, limit_lines}
 use Rattle.addr_script.specs.declared.error.ScriptErr.{ScriptErr}
 use Rattle.addr_script.specs.declared.error.ScriptErr.TheVariants.{Line, NoMemory}
 use Rattle.addr_script.specs.declared.command.Command.{Command}
-use Rattle.addr_script.specs.declared.command.Command.TheVariants.{Load, Release, Status, Read, ReadAll, Count, Close, Take, Done, Fail}
+use Rattle.addr_script.specs.declared.command.Command.TheVariants.{Load, Acquire, Release, Status, References, Read, ReadAll, Count, Close, Take, Done, Fail}
 use Rattle.addr_script.proofs.KeyLemmas.{image_at}
 
 -- no command and no line that sets a variable is spelled as a limit, and no command as such a line
 no_limit_line : (command : Command) (n : ℕ) → spell command ≡ codes "limit " ++ decimal n → ⊥
 no_limit_line (Load caller all mode kind keys) n e = let same : 111 ≡ 105 = cc in let wrong : false ≡ true = ap (λ x. x == 105) same in false≢true wrong
+no_limit_line (Acquire caller op) n e = let same : 97 ≡ 108 = cc in let wrong : false ≡ true = ap (λ x. x == 108) same in false≢true wrong
 no_limit_line (Release caller op) n e = let same : 114 ≡ 108 = cc in let wrong : false ≡ true = ap (λ x. x == 108) same in false≢true wrong
 no_limit_line (Status op) n e = let same : 115 ≡ 108 = cc in let wrong : false ≡ true = ap (λ x. x == 108) same in false≢true wrong
+no_limit_line (References op) n e = let same : 114 ≡ 108 = cc in let wrong : false ≡ true = ap (λ x. x == 108) same in false≢true wrong
 no_limit_line (Read op i) n e = let same : 114 ≡ 108 = cc in let wrong : false ≡ true = ap (λ x. x == 108) same in false≢true wrong
 no_limit_line (ReadAll op i) n e = let same : 114 ≡ 108 = cc in let wrong : false ≡ true = ap (λ x. x == 108) same in false≢true wrong
 no_limit_line (Count b) n e = let same : 99 ≡ 108 = cc in let wrong : false ≡ true = ap (λ x. x == 108) same in false≢true wrong
@@ -32,8 +34,10 @@ no_limit_set v n e = let same : 115 ≡ 108 = cc in let wrong : false ≡ true =
 
 pub no_set_line : (command : Command) (v : Var) → spell command ≡ set_line v → ⊥
 no_set_line (Load caller all mode kind keys) v e = let same : 108 ≡ 115 = cc in let wrong : false ≡ true = ap (λ x. x == 115) same in false≢true wrong
+no_set_line (Acquire caller op) v e = let same : 97 ≡ 115 = cc in let wrong : false ≡ true = ap (λ x. x == 115) same in false≢true wrong
 no_set_line (Release caller op) v e = let same : 114 ≡ 115 = cc in let wrong : false ≡ true = ap (λ x. x == 115) same in false≢true wrong
 no_set_line (Status op) v e = let same : 116 ≡ 101 = cc in let wrong : false ≡ true = ap (λ x. x == 101) same in false≢true wrong
+no_set_line (References op) v e = let same : 114 ≡ 115 = cc in let wrong : false ≡ true = ap (λ x. x == 115) same in false≢true wrong
 no_set_line (Read op i) v e = let same : 114 ≡ 115 = cc in let wrong : false ≡ true = ap (λ x. x == 115) same in false≢true wrong
 no_set_line (ReadAll op i) v e = let same : 114 ≡ 115 = cc in let wrong : false ≡ true = ap (λ x. x == 115) same in false≢true wrong
 no_set_line (Count b) v e = let same : 99 ≡ 115 = cc in let wrong : false ≡ true = ap (λ x. x == 115) same in false≢true wrong
@@ -111,3 +115,8 @@ script_read lines rest more limit vars next commands has sets are small =
 pub script_err : (bytes rest more : List ℕ) (limit : Option ℕ) (vars : List Var) (next : ℕ) (e : ScriptErr) → HasLimit (lines_of bytes) limit (lines_of rest) → HasSets (lines_of rest) (1 + length (limit_lines limit)) vars (lines_of more) next → ReadsFrom more next (Err e) → ReadsScript bytes (Err e)
 script_err bytes rest more limit vars next (Line n) has sets wrong = first_bad (lines_of bytes) (lines_of rest) (lines_of more) limit vars next n has sets wrong
 script_err bytes rest more limit vars next NoMemory has sets wrong = tt
+
+-- a head, and whatever is read behind it
+pub begins : (bytes rest more : List ℕ) (limit : Option ℕ) (vars : List Var) (next : ℕ) → HasLimit (lines_of bytes) limit (lines_of rest) → HasSets (lines_of rest) (1 + length (limit_lines limit)) vars (lines_of more) next → BeginsScript bytes limit vars more next
+begins bytes rest more limit vars next has sets (Ok commands) read = script_read (lines_of bytes) (lines_of rest) (lines_of more) limit vars next commands has sets read.0 read.1
+begins bytes rest more limit vars next has sets (Err e) read = script_err bytes rest more limit vars next e has sets read

@@ -8,7 +8,7 @@ use Rattle.addr_locate.specs.declared.rows.Merge.{Merge}
 use Rattle.addr_locate.specs.declared.rows.Merge.TheVariants.{UseFirst, Union, Intersection}
 use Rattle.addr_script.specs.Causes.{cause_text, IsGivenCause}
 use Rattle.addr_script.specs.declared.command.Command.{Command}
-use Rattle.addr_script.specs.declared.command.Command.TheVariants.{Load, Release, Status, Read, ReadAll, Count, Close, Take, Done, Fail}
+use Rattle.addr_script.specs.declared.command.Command.TheVariants.{Load, Acquire, Release, Status, References, Read, ReadAll, Count, Close, Take, Done, Fail}
 
 abbrev pub one_or_all : Bool → List ℕ
 one_or_all false = codes "one"
@@ -30,8 +30,10 @@ asked_keys_field keys = join_with_byte 44 (map token_of keys)
 
 abbrev pub spell : Command → List ℕ
 spell (Load caller all mode kind keys) = codes "load " ++ (decimal caller ++ 32 ∷ (one_or_all all ++ 32 ∷ (mode_word mode ++ 32 ∷ (kind_field kind ++ 32 ∷ asked_keys_field keys))))
+spell (Acquire caller op) = codes "acquire " ++ (decimal caller ++ 32 ∷ decimal op.0)
 spell (Release caller op) = codes "release " ++ (decimal caller ++ 32 ∷ decimal op.0)
 spell (Status op) = codes "status " ++ decimal op.0
+spell (References op) = codes "refs " ++ decimal op.0
 spell (Read op i) = codes "read " ++ (decimal op.0 ++ 32 ∷ decimal i)
 spell (ReadAll op i) = codes "readall " ++ (decimal op.0 ++ 32 ∷ decimal i)
 spell (Count b) = codes "count " ++ decimal b.0
@@ -56,8 +58,10 @@ IsKind (Some kind) = IsUtf8 kind
 -- the commands that a script may have: numbers below 2 to the 32nd, and texts in UTF-8
 abbrev pub IsCommand : Command → Type 0
 IsCommand (Load caller all mode kind keys) = (caller < 2 ^ 32) × IsKind kind × AreKeys keys
+IsCommand (Acquire caller op) = (caller < 2 ^ 32) × (op.0 < 2 ^ 32)
 IsCommand (Release caller op) = (caller < 2 ^ 32) × (op.0 < 2 ^ 32)
 IsCommand (Status op) = op.0 < 2 ^ 32
+IsCommand (References op) = op.0 < 2 ^ 32
 IsCommand (Read op i) = (op.0 < 2 ^ 32) × (i < 2 ^ 32)
 IsCommand (ReadAll op i) = (op.0 < 2 ^ 32) × (i < 2 ^ 32)
 IsCommand (Count b) = b.0 < 2 ^ 32

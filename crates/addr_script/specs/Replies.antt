@@ -13,7 +13,7 @@ use Rattle.addr_history.specs.declared.answers.Settled.TheVariants.{Kept, Droppe
 use Rattle.addr_history.specs.declared.reading.Item2.{Item2}
 use Rattle.addr_script.specs.Causes.{cause_text}
 use Rattle.addr_script.specs.declared.reply.Reply.{Reply}
-use Rattle.addr_script.specs.declared.reply.Reply.TheVariants.{Opened, NoLocation, JournalFull, Closed, Released, NoHandle, Status, Next as NextReply, Settled as SettledReply, NotTaken, Noted, NowClosed, Counted, NoBundle, Bytes, All, NoAsset, AbsentFrom}
+use Rattle.addr_script.specs.declared.reply.Reply.TheVariants.{Opened, NoLocation, JournalFull, Closed, Acquired, Released, NoHandle, Status, References, Next as NextReply, Settled as SettledReply, NotTaken, Noted, NowClosed, Counted, NoBundle, Bytes, All, NoAsset, AbsentFrom}
 
 abbrev pub status_text : OpStatus → List ℕ
 status_text Pending = codes "pending"
@@ -53,9 +53,11 @@ reply_text (NoLocation (Some token)) = codes "no-location " ++ token
 reply_text (NoLocation None) = codes "no-location %-"
 reply_text (JournalFull used reserved needed) = codes "journal-full " ++ (decimal used ++ 32 ∷ (decimal reserved ++ 32 ∷ decimal needed))
 reply_text Closed = codes "closed"
+reply_text Acquired = codes "acquired"
 reply_text Released = codes "released"
 reply_text NoHandle = codes "no-handle"
 reply_text (Status status) = status_text status
+reply_text (References references) = codes "refs " ++ decimal references
 reply_text (NextReply next) = next_text next
 reply_text (SettledReply settled) = settled_word settled
 reply_text NotTaken = codes "not-taken"

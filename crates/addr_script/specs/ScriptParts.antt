@@ -1,10 +1,10 @@
 -- The parts of a script: its limit, the lines of its commands, and where the reading ends; and the parts of a load's line.
-use Rattle.std.specs.Prelude.{ℕ, ◌≡◌, ◌≤◌, ◌+◌, Bool, List, ◌∷◌, ◌++◌, Option, Some, None, Result, Ok, Err, IfSome, length, map, codes}
+use Rattle.std.specs.Prelude.{ℕ, ◌≡◌, ◌≤◌, ◌<◌, ◌+◌, Bool, List, ◌∷◌, ◌++◌, Option, Some, None, Result, Ok, Err, IfSome, length, map, codes}
 use Rattle.std.specs.List.{AllByRecursion}
 use Rattle.addr_base.specs.declared.var.Var.{Var}
 use Rattle.addr_locate.specs.declared.rows.Merge.{Merge}
 use Rattle.addr_script.specs.Commands.{asked_keys_field, kind_field, mode_word, one_or_all, set_line, spell, AreKeys, IsCommand, IsKind, IsSet, ReadsCommand}
-use Rattle.addr_script.specs.Scripts.{IsLimit, limit_lines}
+use Rattle.addr_script.specs.Scripts.{IsLimit, ReadsScript, Script, limit_lines}
 use Rattle.addr_fields.specs.Fields.{IsCut, IsNumberThen}
 use Rattle.addr_fields.specs.Lines.{lines_of}
 use Rattle.addr_script.specs.declared.command.Command.{Command}
@@ -63,3 +63,31 @@ abbrev pub ReadsFrom : List ℕ → ℕ → Result (List Command) ScriptErr → 
 ReadsFrom bytes n (Ok commands) = AreCommands (lines_of bytes) commands × (n + length commands ≤ 100001)
 ReadsFrom bytes n (Err (Line bad)) = IsBadFrom (lines_of bytes) n bad
 ReadsFrom bytes n (Err NoMemory) = Unit {0}
+
+-- what bytes are read as whose head is this, where the lines behind it are read so
+abbrev pub script_with : Option ℕ → List Var → Result (List Command) ScriptErr → Result Script ScriptErr
+script_with limit vars (Ok commands) = Ok (record { limit = limit; vars = vars; commands = commands })
+script_with limit vars (Err e) = Err e
+
+-- bytes begin with a script's head, and line n and those behind it are the rest: however these are read, so are the bytes
+abbrev pub BeginsScript : List ℕ → Option ℕ → List Var → List ℕ → ℕ → Type 0
+BeginsScript bytes limit vars rest n = (read : Result (List Command) ScriptErr) → ReadsFrom rest n read → ReadsScript bytes (script_with limit vars read)
+
+-- the first line, which is line n of the whole, is a command's
+pub record IsNextCommand (bytes : List ℕ) (n : ℕ) (command : Command) (after : List ℕ) : Type 0 where
+  pub is : IsCommand command
+  pub line : lines_of bytes ≡ spell command ∷ lines_of after
+  pub few : n ≤ 100000
+  pub shorter : length after < length bytes
+
+-- the first line, which is line n of the whole, is none's or stands past the end
+pub record IsNoneNext (bytes : List ℕ) (n : ℕ) : Type 0 where
+  pub line : List ℕ
+  pub after : List (List ℕ)
+  pub split : lines_of bytes ≡ line ∷ after
+  pub wrong : n ≤ 100000 → ReadsCommand line None
+
+-- why the first line isn't a command's
+abbrev pub IsBadNext : List ℕ → ℕ → ScriptErr → Type 0
+IsBadNext bytes n (Line bad) = (bad ≡ n) × IsNoneNext bytes n
+IsBadNext bytes n NoMemory = Unit {0}

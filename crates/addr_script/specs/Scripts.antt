@@ -5,9 +5,14 @@ use Rattle.addr_base.specs.declared.var.Var.{Var}
 use Rattle.addr_script.specs.Commands.{set_line, spell, IsCommand, IsSet}
 use Rattle.addr_script.specs.declared.command.Command.{Command}
 use Rattle.addr_fields.specs.Lines.{lines_of}
-use Rattle.addr_script.specs.declared.script.Script.{Script}
 use Rattle.addr_script.specs.declared.error.ScriptErr.{ScriptErr}
 use Rattle.addr_script.specs.declared.error.ScriptErr.TheVariants.{Line, NoMemory}
+
+-- a script: the most events of its journal, where its first line says so, the variables that it sets, and its commands, in order
+pub record Script : Type 0 where
+  pub limit : Option ℕ
+  pub vars : List Var
+  pub commands : List Command
 
 -- a limit of the journal: from 1 to 1,000,000 events
 abbrev pub IsLimit : ℕ → Type 0

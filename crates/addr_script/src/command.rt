@@ -15,11 +15,19 @@ pub enum Command {
         kind: Option<Text>,
         keys: Items<Text>,
     },
+    /// Takes one reference more of an operation.
+    Acquire {
+        caller: u32,
+        op: OpId,
+    },
+    /// Gives a reference of an operation back.
     Release {
         caller: u32,
         op: OpId,
     },
     Status(OpId),
+    /// How many references an operation has.
+    References(OpId),
     /// The bytes of the asset that an operation's i-th row is.
     Read {
         op: OpId,

@@ -1,7 +1,6 @@
-// What holds of scripts whatever is read, so that exactly one of the answers of `read_script` fits the bytes.
+// What holds of scripts whatever is read, so that exactly one of the answers that reading may have fits the bytes.
 ghost use Rattle.std.specs.Prelude.{◌≡◌, ℕ, List};
-ghost use Rattle.addr_script.specs.Scripts.{IsFirstBad, IsScript};
-ghost use Rattle.addr_script.specs.declared.script.Script.{Script};
+ghost use Rattle.addr_script.specs.Scripts.{IsFirstBad, IsScript, Script};
 
 /// Lines are at most one script, and have no first bad line where they are one; other lines have no two.
 pub fn script_laws()

@@ -1,7 +1,7 @@
 //! Scripts of the loading machine: the lines that are read, and the texts of the replies (docs/formats/scripts.md).
 //!
-//! Promise: `read_script` answers the one script that the bytes are (`specs/Scripts.antt`), else its first bad line;
-//! a reply is printed as `specs/Replies.antt` says.
+//! Promise: `read_head`, and then `next_command` line by line, find the one script that bytes are, or their first bad line
+//! (`specs/Scripts.antt`, `specs/ScriptParts.antt`); a reply is printed as `specs/Replies.antt` says.
 //! Units: lines count from 1. Start: `specs/Commands.antt`, then `src/script.rt`.
 #![tactic(auto)]
 
@@ -23,6 +23,6 @@ pub use keys::key_list;
 pub use laws::script_laws;
 pub use parser::parse_command;
 pub use reply::{CauseText, Reply};
-pub use script::{Script, read_script};
+pub use script::{ScriptHead, next_command, read_head};
 pub use set_line::parse_set;
 pub use shown::{content, items_text};

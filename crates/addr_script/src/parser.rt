@@ -6,7 +6,7 @@ ghost use Rattle.addr_base.specs.declared.ids.BundleNo.{BundleNo};
 ghost use Rattle.addr_base.specs.declared.ids.OpId.{OpId};
 ghost use Rattle.addr_script.specs.Causes.{cause_text, IsGivenCause};
 ghost use Rattle.addr_script.specs.Commands.{ReadsCommand, Spells};
-ghost use Rattle.addr_script.specs.declared.command.Command.TheVariants.{Release, Status, Read, ReadAll, Count, Close, Take, Done, Fail};
+ghost use Rattle.addr_script.specs.declared.command.Command.TheVariants.{Acquire, Release, Status, References, Read, ReadAll, Count, Close, Take, Done, Fail};
 
 use crate::command::Command;
 use crate::loads::load;
@@ -29,11 +29,12 @@ pub fn parse_command(alloc: Global, line: &[u8]) -> Result<Option<Command>, NoMe
     }
 }
 
-/// `status`, `read`, `readall`, `count` and `close`.
+/// `status`, `refs`, `read`, `readall`, `count` and `close`.
 fn question(line: &[u8]) -> Option<Command>
     ensures found { IfSome result (λ command. Spells line.now command) }
     ensures close { IsNone result → Spells line.now Close → ⊥ }
     ensures status { IsNone result → (op : OpId) → Spells line.now (Status op) → ⊥ }
+    ensures references { IsNone result → (op : OpId) → Spells line.now (References op) → ⊥ }
     ensures read { IsNone result → (op : OpId) (i : ℕ) → Spells line.now (Read op i) → ⊥ }
     ensures read_all { IsNone result → (op : OpId) (i : ℕ) → Spells line.now (ReadAll op i) → ⊥ }
     ensures count { IsNone result → (b : BundleNo) → Spells line.now (Count b) → ⊥ }
@@ -43,6 +44,9 @@ fn question(line: &[u8]) -> Option<Command>
     }
     if let Some(op) = number_after(line, b"status ") {
         return Some(Command::Status(OpId(op)));
+    }
+    if let Some(op) = number_after(line, b"refs ") {
+        return Some(Command::References(OpId(op)));
     }
     if let Some((op, i)) = two_numbers_after(line, b"read ") {
         return Some(Command::Read { op: OpId(op), i });
@@ -56,15 +60,22 @@ fn question(line: &[u8]) -> Option<Command>
     }
 }
 
-/// `release`, `take`, `done` and `fail`.
+/// `acquire`, `release`, `take`, `done` and `fail`.
 fn change(line: &[u8]) -> Option<Command>
     ensures found { IfSome result (λ command. Spells line.now command) }
+    ensures acquire { IsNone result → (caller : ℕ) (op : OpId) → Spells line.now (Acquire caller op) → ⊥ }
     ensures release { IsNone result → (caller : ℕ) (op : OpId) → Spells line.now (Release caller op) → ⊥ }
     ensures take { IsNone result → (worker : ℕ) → Spells line.now (Take worker) → ⊥ }
     ensures done { IsNone result → (worker : ℕ) (b : BundleNo) → Spells line.now (Done worker b) → ⊥ }
     ensures fail { IsNone result → (worker : ℕ) (b : BundleNo) (cause : Cause)
         → Spells line.now (Fail worker b cause) → ⊥ }
 {
+    if let Some((caller, op)) = two_numbers_after(line, b"acquire ") {
+        return Some(Command::Acquire {
+            caller,
+            op: OpId(op),
+        });
+    }
     if let Some((caller, op)) = two_numbers_after(line, b"release ") {
         return Some(Command::Release {
             caller,

@@ -14,7 +14,7 @@ pub enum Reply {
     Opened(OpId),
     /// A load's keys lead to no row: the token of the first key without one, where there is such a key.
     NoLocation(Option<Text>),
-    /// A load would have passed the journal's limit; the numbers are of events.
+    /// A load or an acquire would have passed the journal's limit; the numbers are of events.
     JournalFull {
         used: u32,
         reserved: u32,
@@ -22,9 +22,12 @@ pub enum Reply {
     },
     /// A load, or another `close`, came after the machine was closed.
     Closed,
+    Acquired,
     Released,
     NoHandle,
     Status(OpStatus),
+    /// How many references an operation has.
+    References(u32),
     Next(Next),
     Settled(Settled),
     NotTaken,
@@ -68,9 +71,11 @@ impl fmt::Display for Reply {
                 needed,
             } => write!(f, "journal-full {used} {reserved} {needed}"),
             Reply::Closed => f.write_str("closed"),
+            Reply::Acquired => f.write_str("acquired"),
             Reply::Released => f.write_str("released"),
             Reply::NoHandle => f.write_str("no-handle"),
             Reply::Status(status) => write!(f, "{}", StatusText(*status)),
+            Reply::References(references) => write!(f, "refs {references}"),
             Reply::Next(next) => write!(f, "{}", NextText(*next)),
             Reply::Settled(settled) => f.write_str(settled_word(*settled)),
             Reply::NotTaken => f.write_str("not-taken"),

@@ -1,10 +1,10 @@
-// A whole script. Lines are read from the front, and the first one that isn't in the grammar at its place ends the reading.
-ghost use Rattle.std.specs.Prelude.{◌≡◌, ◌<◌, ◌≤◌, ◌+◌, ◌∷◌, [], ◌↔◌, ℕ, List, IsTrue, MatchOption, IfOk, Some, length};
+// A script, line by line from the front. The first line that isn't in the grammar at its place ends the reading.
+ghost use Rattle.std.specs.Prelude.{◌≡◌, ◌<◌, ◌≤◌, ◌+◌, ◌∷◌, [], ◌↔◌, ℕ, List, IsTrue, MatchOption, IfErr, IfOk, IfSome, Some, length};
 ghost use Rattle.addr_fields.specs.Lines.{lines_of};
 ghost use Rattle.addr_base.specs.declared.var.Var.{Var};
 ghost use Rattle.addr_script.specs.Commands.{set_line, IsSet};
-ghost use Rattle.addr_script.specs.ScriptParts.{HasLimit, HasSets, ReadsFrom};
-ghost use Rattle.addr_script.specs.Scripts.{IsLimit, ReadsScript, limit_lines};
+ghost use Rattle.addr_script.specs.ScriptParts.{BeginsScript, HasLimit, HasSets, IsBadNext, IsNextCommand};
+ghost use Rattle.addr_script.specs.Scripts.{IsLimit, limit_lines};
 
 use crate::command::Command;
 use crate::error::ScriptErr;
@@ -20,30 +20,33 @@ const MAX_LINES: u32 = 100_000;
 /// The most events that a journal may be opened for.
 const MAX_LIMIT: u32 = 1_000_000;
 
-/// A script that was read.
+/// What a script begins with, and where the lines of its commands begin.
 #[derive(Drop)]
-pub struct Script {
+pub struct ScriptHead<'a> {
     /// The most events that the journal may have, where the first line says so.
     pub limit: Option<u32>,
-    /// The variables that it sets, in order.
+    /// The variables that the script sets, in order.
     pub vars: Items<Var>,
-    pub commands: Items<Command>,
+    /// The bytes of the lines of its commands.
+    pub rest: &'a [u8],
+    /// The number, from 1, of the first of these lines.
+    pub next: u32,
 }
 
-/// Reads the script that the bytes are, in one pass. It keeps no memory but the variables and the commands.
-pub fn read_script(alloc: Global, bytes: &[u8]) -> Result<Script, ScriptErr>
-    ensures { ReadsScript bytes.now result }
+/// Reads what a script begins with. The lines of its commands are read by `next_command`.
+pub fn read_head(alloc: Global, bytes: &[u8]) -> Result<ScriptHead<'_>, NoMemory>
+    ensures begins { IfOk result (λ h. BeginsScript bytes.now h.limit h.vars h.rest.now h.next) }
+    ensures limit { IfOk result (λ h. IfSome h.limit IsLimit) }
+    ensures few { IfOk result (λ h. h.next ≤ 100001) }
 {
     let (limit, rest) = first_limit(bytes);
     let sets = read_sets(alloc, rest, first_number(limit))?;
-    match read_commands(alloc, sets.rest, sets.next) {
-        Ok(commands) => Ok(Script {
-            limit,
-            vars: sets.vars,
-            commands,
-        }),
-        Err(e) => Err(e),
-    }
+    Ok(ScriptHead {
+        limit,
+        vars: sets.vars,
+        rest: sets.rest,
+        next: sets.next,
+    })
 }
 
 /// The limit of a first line that has one, and the bytes behind that line, else all bytes.
@@ -129,24 +132,25 @@ fn next_set(alloc: Global, bytes: &[u8], number: u32) -> Result<Option<(Var, &[u
     }
 }
 
-/// The commands of the lines of which the first has that number.
-fn read_commands(alloc: Global, bytes: &[u8], first: u32) -> Result<Items<Command>, ScriptErr>
-    requires few { first ≤ 100001 }
-    ensures { ReadsFrom bytes.now first result }
+/// The command of the first of some lines, which has that number in the script, and the bytes behind its line; None where no
+/// line is left.
+pub fn next_command(
+    alloc: Global,
+    bytes: &[u8],
+    number: u32,
+) -> Result<Option<(Command, &[u8])>, ScriptErr>
+    ensures found { IfOk result (λ found. MatchOption found (bytes.now ≡ [])
+        (λ p. IsNextCommand bytes.now number p.0 p.1.now)) }
+    ensures refused { IfErr result (IsBadNext bytes.now number) }
 {
-    let mut commands = Items::new(alloc);
-    let mut rest = bytes;
-    let mut number = first;
-    while let Some((line, after)) = next_line(rest) {
-        if number > MAX_LINES {
-            return Err(ScriptErr::Line(number));
-        }
-        match parse_command(alloc, line)? {
-            Some(command) => commands.push(command)?,
-            None => return Err(ScriptErr::Line(number)),
-        }
-        number += 1;
-        rest = after;
+    let Some((line, after)) = next_line(bytes) else {
+        return Ok(None);
+    };
+    if number > MAX_LINES {
+        return Err(ScriptErr::Line(number));
     }
-    Ok(commands)
+    match parse_command(alloc, line)? {
+        Some(command) => Ok(Some((command, after))),
+        None => Err(ScriptErr::Line(number)),
+    }
 }

@@ -13,7 +13,7 @@ use Rattle.addr_http.specs.Responses.{Causes, Tells}
 use Rattle.addr_http.specs.declared.answering.Served.{Served}
 use Rattle.addr_http.specs.declared.answering.Served.TheVariants.{Answered, Broken, NoMemory}
 use Rattle.addr_serve.specs.Lines.{net_line, port_line, served_line}
-use Rattle.addr_serve.specs.Loops.{IsAhead, PrintsLast, PrintsLine, PrintsSo, ServesAll}
+use Rattle.addr_serve.specs.Loops.{IsAhead, ListenCause, NetCause, PrintsLast, PrintsLine, PrintsSo, ServesAll}
 use Rattle.addr_serve.specs.Serving.{Adds, AreTurns, Follows, is_failed, Prints, Serves, Turn, Writes, lines_of}
 use Rattle.addr_serve.specs.declared.serving.Ended.{Ended}
 use Rattle.addr_serve.specs.declared.serving.Ended.TheVariants.{Done, Memory, Net, Sink}
@@ -169,6 +169,20 @@ done_of Done result c d p e = refl
 done_of Net result c d p e = elim p as (λ _. Net ≡ Done) [ inl x ↦ absurd (let k : Net ≡ Done = sym x.0 ∙ e in cc) | inr x ↦ absurd (let k : Sink ≡ Done = sym x ∙ e in cc) ]
 done_of Memory result c d p e = elim p as (λ _. Memory ≡ Done) [ inl x ↦ absurd (let k : Memory ≡ Done = sym x.0 ∙ e in cc) | inr x ↦ absurd (let k : Sink ≡ Done = sym x ∙ e in cc) ]
 done_of Sink result c d p e = absurd (let k : Sink ≡ Done = sym p.0 ∙ e in cc)
+
+-- the listener's count behind the last line
+cause_at : (x result : Ended) (before now : ℕ) → result ≡ x → ListenCause x before now → ListenCause result before now
+cause_at x result before now e c = subst (λ (r : Ended). ListenCause r before now) (sym e) c
+
+pub cause_last : (r result : Ended) (c d : Option (List ℕ)) (before now : ℕ) → PrintsLast r result c d → NetCause r before now → ListenCause result before now
+cause_last Done result c d before now p e = cause_at Done result before now p.0 e
+cause_last Net result c d before now p e = elim p as (λ _. ListenCause result before now) [ inl x ↦ cause_at Net result before now x.0 e | inr x ↦ cause_at Sink result before now x (inr e) ]
+cause_last Memory result c d before now p e = elim p as (λ _. ListenCause result before now) [ inl x ↦ cause_at Memory result before now x.0 e | inr x ↦ cause_at Sink result before now x (inl e) ]
+cause_last Sink result c d before now p e = cause_at Sink result before now p.0 (inl e)
+
+-- from where the listener was opened, and its count stayed
+pub cause_opened : (result : Ended) (before middle now : ℕ) → middle ≡ before → ListenCause result middle now → ListenCause result before now
+cause_opened result before middle now e c = subst (λ (n : ℕ). ListenCause result n now) e c
 
 prints_at : (port : ℕ) (turns : List Turn) (x result : Ended) (a d : Option (List ℕ)) → result ≡ x → Prints port turns x a d → Prints port turns result a d
 prints_at port turns x result a d e p = subst (λ (r : Ended). Prints port turns r a d) (sym e) p

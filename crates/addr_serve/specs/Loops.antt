@@ -35,11 +35,18 @@ NetCause Net before now = Rose before now
 NetCause Memory before now = now ≡ before
 NetCause Sink before now = now ≡ before
 
--- the sink's count rose where it failed, and never falls
+-- so behind the last line: where the sink failed, the listener may have failed before
+abbrev pub ListenCause : Ended → ℕ → ℕ → Type 0
+ListenCause Done before now = now ≡ before
+ListenCause Net before now = Rose before now
+ListenCause Memory before now = now ≡ before
+ListenCause Sink before now = (now ≡ before) ⊎ Rose before now
+
+-- the sink's count rose where it failed, and else stays
 abbrev pub SinkCause : Ended → ℕ → ℕ → Type 0
-SinkCause Done before now = before ≤ now
-SinkCause Net before now = before ≤ now
-SinkCause Memory before now = before ≤ now
+SinkCause Done before now = now ≡ before
+SinkCause Net before now = now ≡ before
+SinkCause Memory before now = now ≡ before
 SinkCause Sink before now = Rose before now
 
 -- the line of one connection
@@ -60,7 +67,7 @@ PrintsLast Memory result old new = PutsLast memory_line Memory result old new
 PrintsLast Sink result old new = (result ≡ Sink) × (new ≡ old)
 
 abbrev pub PutCause : Ended → Ended → ℕ → ℕ → Type 0
-PutCause ended result before now = ((result ≡ ended) × (before ≤ now)) ⊎ ((result ≡ Sink) × Rose before now)
+PutCause ended result before now = ((result ≡ ended) × (now ≡ before)) ⊎ ((result ≡ Sink) × Rose before now)
 
 abbrev pub LastCause : Ended → Ended → ℕ → ℕ → Type 0
 LastCause Done result before now = now ≡ before

@@ -1,9 +1,8 @@
 // Serving connections one after the other. A connection is finished before its line is written, whatever becomes of it.
 ghost use Rattle.std.specs.Prelude.{◌≡◌, ◌≢◌, IfSome};
-ghost use Rattle.addr_base.specs.Faults.{Rose};
 ghost use Rattle.addr_base.specs.Files.{SameStore};
 ghost use Rattle.addr_serve.specs.Lines.{served_line};
-ghost use Rattle.addr_serve.specs.Loops.{IsAhead, LastCause, NetCause, PrintsLast, PrintsLine, PutCause, PutsLast, ServesAll, SinkCause};
+ghost use Rattle.addr_serve.specs.Loops.{IsAhead, LastCause, ListenCause, NetCause, PrintsLast, PrintsLine, PutCause, PutsLast, ServesAll, SinkCause};
 ghost use Rattle.addr_serve.specs.Serving.{Serves};
 
 use crate::lines::{port_line, served_line};
@@ -41,7 +40,7 @@ pub fn serve<D: Depot, L: Listen, K: Sink>(
         (D.now depot.new).faults result
         (L.now listen.old) (L.now listen.new) (K.now out.old).written (K.now out.new).written }
     ensures asked { port ≢ 0 → result ≡ Ended.Done → IfSome (L.now listen.new).port (λ bound. bound ≡ port) }
-    ensures net { result ≡ Ended.Net → Rose (L.now listen.old).faults (L.now listen.new).faults }
+    ensures net { ListenCause result (L.now listen.old).faults (L.now listen.new).faults }
     ensures sink { SinkCause result (K.now out.old).faults (K.now out.new).faults }
     ensures same { SameStore (D.now depot.old) (D.now depot.new) }
 {
@@ -67,7 +66,7 @@ fn serve_from<D: Depot, L: Listen, K: Sink>(
         (D.now depot.new).faults result
         (L.now listen.old) (L.now listen.new) (K.now out.old).written (K.now out.new).written }
     ensures port { (L.now listen.new).port ≡ (L.now listen.old).port }
-    ensures net { result ≡ Ended.Net → Rose (L.now listen.old).faults (L.now listen.new).faults }
+    ensures net { ListenCause result (L.now listen.old).faults (L.now listen.new).faults }
     ensures sink { SinkCause result (K.now out.old).faults (K.now out.new).faults }
     ensures same { SameStore (D.now depot.old) (D.now depot.new) }
 {

@@ -1,3 +1,4 @@
+mod WalkLemmas
+pub mod LineLemmas
 pub mod PlayLemmas
 pub mod ReadLemmas
-mod WalkLemmas

@@ -5,8 +5,9 @@ use Rattle.addr_base.specs.declared.ids.BundleNo.{BundleNo}
 use Rattle.addr_base.specs.declared.ids.OpId.{OpId}
 use Rattle.addr_locate.specs.Rows.{Rows}
 use Rattle.addr_locate.specs.declared.rows.Merge.{Merge}
-use Rattle.addr_history.specs.Answers.{load_reply, load_adds, release_reply, release_adds, status_reply, take_reply, take_adds, done_reply, done_adds, fail_reply, fail_adds, close_reply, close_adds, count_reply}
+use Rattle.addr_history.specs.Answers.{load_reply, load_adds, acquire_reply, acquire_adds, release_reply, release_adds, status_reply, take_reply, take_adds, done_reply, done_adds, fail_reply, fail_adds, close_reply, close_adds, count_reply}
 use Rattle.addr_history.specs.Calls.{Both}
+use Rattle.addr_history.specs.Counts.{references_of}
 use Rattle.addr_history.specs.declared.answers.Next.{Next as NextWord}
 use Rattle.addr_history.specs.declared.ask.Ask.{Ask}
 use Rattle.addr_core.specs.Machine.{Machine, grown, with_kept}
@@ -16,11 +17,11 @@ use Rattle.addr_history.specs.declared.answers.Settled.TheVariants.{Kept, Droppe
 use Rattle.addr_history.specs.declared.event.Event.{Event}
 use Rattle.addr_script.specs.Replies.{reply_text}
 use Rattle.addr_script.specs.declared.command.Command.{Command}
-use Rattle.addr_script.specs.declared.command.Command.TheVariants.{Load, Release, Status, Read, ReadAll, Count, Close, Take, Done, Fail}
+use Rattle.addr_script.specs.declared.command.Command.TheVariants.{Load, Acquire, Release, Status, References, Read, ReadAll, Count, Close, Take, Done, Fail}
 use Rattle.addr_script.specs.declared.reply.Reply.{Reply}
-use Rattle.addr_script.specs.declared.reply.Reply.TheVariants.{Next}
+use Rattle.addr_script.specs.declared.reply.Reply.TheVariants.{Next, References as ReferencesReply}
 use Rattle.addr_simulate.specs.Reading.{IsToldRead, IsToldReadAll}
-use Rattle.addr_simulate.specs.SimText.{ask_of, close_answer, count_answer, done_answer, fail_answer, load_answer, release_answer, status_answer, Plays, PlaysLine, SimText}
+use Rattle.addr_simulate.specs.SimText.{acquire_answer, ask_of, close_answer, count_answer, done_answer, fail_answer, load_answer, release_answer, status_answer, Plays, PlaysLine, SimText}
 
 -- the image makes no difference to the reply
 done_same : {I : Type 0} (rows : Rows) (h : List Event) (worker : ℕ) (b : BundleNo) (image : I) → done_answer (done_reply rows h worker b image) ≡ done_answer (done_reply rows h worker b (tt {0}))
@@ -69,6 +70,11 @@ load_plays old new caller all mode kind keys ask reply is left told =
     (grew old new (load_adds answer caller asked) (left ∙ ap (λ (a : Ask). grown old (load_adds (load_reply old.rows old.limit old.history a) caller a)) is))
     (record { answers = one answer; answered = (refl, refl); told = told ∙ ap (λ (a : Ask). load_answer keys (load_reply old.rows old.limit old.history a)) is })
 
+pub acquire_plays : {I : Type 0} (old new : Machine I) (caller : ℕ) (op : OpId) (reply : Reply) → new ≡ grown old (acquire_adds (acquire_reply old.rows old.limit old.history op) caller op) → reply ≡ acquire_answer (acquire_reply old.rows old.limit old.history op) → Plays old (Acquire caller op) reply new
+acquire_plays old new caller op reply left told =
+    let answer = acquire_reply old.rows old.limit old.history op in
+    plays old new (Acquire caller op) reply (acquire_adds answer caller op) (grew old new (acquire_adds answer caller op) left) (record { answers = one answer; answered = (refl, refl); told = told })
+
 pub release_plays : {I : Type 0} (old new : Machine I) (caller : ℕ) (op : OpId) (reply : Reply) → new ≡ grown old (release_adds old.history caller op) → reply ≡ release_answer (release_reply old.history op) → Plays old (Release caller op) reply new
 release_plays old new caller op reply left told =
     plays old new (Release caller op) reply (release_adds old.history caller op) (grew old new (release_adds old.history caller op) left)
@@ -76,6 +82,9 @@ release_plays old new caller op reply left told =
 
 pub status_plays : {I : Type 0} (old new : Machine I) (op : OpId) (reply : Reply) → new ≡ old → reply ≡ status_answer (status_reply old.rows old.history op) → Plays old (Status op) reply new
 status_plays old new op reply left told = plays old new (Status op) reply [] (same old new left) (record { answers = one (status_reply old.rows old.history op); answered = (refl, refl); told = told })
+
+pub references_plays : {I : Type 0} (old new : Machine I) (op : OpId) (references : ℕ) → new ≡ old → references ≡ references_of old.history op → Plays old (References op) (ReferencesReply references) new
+references_plays old new op references left told = plays old new (References op) (ReferencesReply references) [] (same old new left) (record { answers = one references; answered = (told, refl); told = refl })
 
 pub read_plays : {I : Type 0} (old new : Machine I) (op : OpId) (i : ℕ) (reply : Reply) → new ≡ old → IsToldRead old.rows old.history op i reply → Plays old (Read op i) reply new
 read_plays old new op i reply left (answer, reads, told) = plays old new (Read op i) reply [] (same old new left) (record { answers = one answer; answered = (reads, refl); told = told })

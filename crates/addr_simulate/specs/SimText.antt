@@ -11,7 +11,7 @@ use Rattle.addr_locate.specs.declared.rows.Kind.{Kind}
 use Rattle.addr_locate.specs.declared.rows.Kind.TheVariants.{Any, Known, Unknown}
 use Rattle.addr_locate.specs.declared.rows.Merge.{Merge}
 use Rattle.addr_history.specs.Calls.{Call, Answers, AreAnswered}
-use Rattle.addr_history.specs.Calls.Call.{load, release, status, read, read_all, take, done, fail, close, count}
+use Rattle.addr_history.specs.Calls.Call.{load, acquire, release, status, references, read, read_all, take, done, fail, close, count}
 use Rattle.addr_history.specs.declared.answers.BundleState.{BundleState}
 use Rattle.addr_history.specs.declared.answers.NoHandle.{NoHandle as NoHandleErr}
 use Rattle.addr_history.specs.declared.answers.NotTaken.{NotTaken as NotTakenErr}
@@ -19,6 +19,8 @@ use Rattle.addr_history.specs.declared.answers.OpStatus.{OpStatus}
 use Rattle.addr_history.specs.declared.answers.OpStatus.TheVariants.{Pending, Failed}
 use Rattle.addr_history.specs.declared.answers.Settled.{Settled as SettledWord}
 use Rattle.addr_history.specs.declared.ask.Ask.{Ask}
+use Rattle.addr_history.specs.declared.error.AcquireErr.{AcquireErr}
+use Rattle.addr_history.specs.declared.error.AcquireErr.TheVariants as acquiring
 use Rattle.addr_history.specs.declared.error.LoadErr.{LoadErr}
 use Rattle.addr_history.specs.declared.error.LoadErr.TheVariants as loading
 use Rattle.addr_history.specs.declared.event.Event.{Event}
@@ -28,10 +30,11 @@ use Rattle.addr_history.specs.declared.reading.ReadErr.TheVariants as reading
 use Rattle.addr_core.specs.Machine.{Machine}
 use Rattle.addr_script.specs.Replies.{content_text, items_text, reply_text}
 use Rattle.addr_script.specs.declared.command.Command.{Command}
-use Rattle.addr_script.specs.declared.command.Command.TheVariants.{Load, Release, Status, Read, ReadAll, Count, Close, Take, Done, Fail}
+use Rattle.addr_script.specs.declared.command.Command.TheVariants.{Load, Acquire, Release, Status, References, Read, ReadAll, Count, Close, Take, Done, Fail}
 use Rattle.addr_script.specs.declared.reply.Reply.{Reply}
-use Rattle.addr_script.specs.declared.script.Script.{Script}
-use Rattle.addr_script.specs.declared.reply.Reply.TheVariants.{Opened, NoLocation, JournalFull, Closed, Released, NoHandle, Status as StatusReply, Next, Settled, NotTaken, Noted, NowClosed, Counted, NoBundle, Bytes, All, NoAsset, AbsentFrom}
+use Rattle.addr_script.specs.Scripts.{ReadsScript, Script}
+use Rattle.addr_script.specs.declared.error.ScriptErr.{ScriptErr}
+use Rattle.addr_script.specs.declared.reply.Reply.TheVariants.{Opened, NoLocation, JournalFull, Closed, Acquired, Released, NoHandle, Status as StatusReply, References as ReferencesReply, Next, Settled, NotTaken, Noted, NowClosed, Counted, NoBundle, Bytes, All, NoAsset, AbsentFrom}
 
 -- what the image holds that a script's `done` hands in: under each GUID its own 16 bytes, and no references
 abbrev pub sim_objects : BundleNo → List ℕ → Option Object
@@ -57,6 +60,11 @@ load_answer keys (Err (loading.NoLocation first)) = NoLocation (option_map (key_
 load_answer keys (Err (loading.JournalFull used reserved needed)) = JournalFull used reserved needed
 load_answer keys (Err loading.Closed) = Closed
 load_answer keys (Err loading.NoMemory) = Closed
+
+abbrev pub acquire_answer : Result (Unit {0}) AcquireErr → Reply
+acquire_answer (Ok _) = Acquired
+acquire_answer (Err acquiring.NoHandle) = NoHandle
+acquire_answer (Err (acquiring.JournalFull used reserved needed)) = JournalFull used reserved needed
 
 abbrev pub release_answer : Result (Unit {0}) NoHandleErr → Reply
 release_answer (Ok _) = Released
@@ -103,8 +111,10 @@ count_answer None = NoBundle
 -- the calls that a command makes
 abbrev pub calls_of : Rows → Command → List Call
 calls_of rows (Load caller all mode kind keys) = load caller (ask_of rows all mode kind keys) ∷ []
+calls_of rows (Acquire caller op) = acquire caller op ∷ []
 calls_of rows (Release caller op) = release caller op ∷ []
 calls_of rows (Status op) = status op ∷ []
+calls_of rows (References op) = references op ∷ []
 calls_of rows (Read op i) = read op i ∷ []
 calls_of rows (ReadAll op i) = read_all op i ∷ []
 calls_of rows (Count b) = count b ∷ []
@@ -116,8 +126,10 @@ calls_of rows (Fail worker b cause) = fail worker b cause ∷ []
 -- the reply to a command, by the answers of its calls
 abbrev pub reply_of : (rows : Rows) (command : Command) → Answers (calls_of rows command) → Reply
 reply_of rows (Load caller all mode kind keys) answers = load_answer keys answers.first
+reply_of rows (Acquire caller op) answers = acquire_answer answers.first
 reply_of rows (Release caller op) answers = release_answer answers.first
 reply_of rows (Status op) answers = status_answer answers.first
+reply_of rows (References op) answers = ReferencesReply answers.first
 reply_of rows (Read op i) answers = read_answer answers.first
 reply_of rows (ReadAll op i) answers = read_all_answer answers.first
 reply_of rows (Count b) answers = count_answer answers.first
@@ -138,7 +150,11 @@ pub record Plays {I : Type 0} (old : Machine I) (command : Command) (reply : Rep
   pub rows : new.rows ≡ old.rows
   pub limit : new.limit ≡ old.limit
 
--- the most events of a script without a limit
+-- a machine plays a command, and the line of its reply stands behind a text
+abbrev pub PlaysAs : {I : Type 0} → Machine I → Command → List ℕ → Machine I → List ℕ → Type 0
+PlaysAs old command text new text_after = (reply : Reply) × Plays old command reply new × (text_after ≡ text ++ (reply_text reply ++ 10 ∷ []))
+
+-- the most events of a script, 100,000 without a limit
 abbrev pub limit_of : Script → ℕ
 limit_of script = unwrap_or script.limit 100000
 
@@ -146,3 +162,8 @@ limit_of script = unwrap_or script.limit 100000
 abbrev pub SimText : Rows → ℕ → List Event → List Command → List ℕ → Type 0
 SimText rows limit h [] text = text ≡ []
 SimText rows limit h (command ∷ commands) text = (reply : Reply) × (after : List Event) × (rest : List ℕ) × PlaysLine rows limit h command reply after × SimText rows limit after commands rest × (text ≡ reply_text reply ++ 10 ∷ rest)
+
+-- what bytes are simulated as over rows: the replies to the script that they are, or the first bad line
+abbrev pub SimulatesScript : Rows → List ℕ → Result (List ℕ) ScriptErr → Type 0
+SimulatesScript rows bytes (Ok text) = (s : Script) × ReadsScript bytes (Ok s) × SimText rows (limit_of s) [] s.commands text
+SimulatesScript rows bytes (Err e) = ReadsScript bytes (Err e)

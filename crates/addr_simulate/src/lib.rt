@@ -1,7 +1,7 @@
 //! Plays a script on the loading machine: what `simulate` prints.
 //!
-//! Promise: the text is that of the replies to the commands, one line each, each at the history that the commands before it
-//! make (`specs/SimText.antt`).
+//! Promise: the text is that of the replies to the commands of the script, one line each, each at the history that the commands
+//! before it make, or the script's first bad line is answered (`specs/SimText.antt`).
 //! Units: lines end with one LF. Left out: files and words (`addr_cli`). Start: `specs/SimText.antt`, then `src/simulator.rt`.
 #![tactic(auto)]
 

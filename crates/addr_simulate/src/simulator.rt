@@ -1,51 +1,69 @@
 // Plays a script on the machine, one command after the other, and writes each reply on a line of its own.
-ghost use Rattle.std.specs.Prelude.{◌≡◌, ◌<◌, ◌^◌, [], IfOk, IfSome, OnOk, Ok, Err, length, map, slice_get, unwrap_or};
-ghost use Rattle.std.specs.List.{AllByRecursion};
+ghost use Rattle.std.specs.Prelude.{◌≡◌, ◌<◌, ◌^◌, [], IfOk, IfSome, OnOk, Ok, Err, length, map, slice_get, string_bytes, unwrap_or};
 ghost use Rattle.std.specs.Option.{option_map};
-ghost use Rattle.addr_history.specs.Answers.{close_adds, close_reply, count_reply, fail_adds, fail_reply, load_adds, load_reply, release_adds, release_reply, status_reply};
+ghost use Rattle.addr_history.specs.Answers.{acquire_adds, acquire_reply, close_adds, close_reply, count_reply, fail_adds, fail_reply, load_adds, load_reply, release_adds, release_reply, status_reply};
 ghost use Rattle.addr_history.specs.declared.reading.ReadErr.TheVariants.{NoMemory as ReadNoMemory};
 ghost use Rattle.addr_core.specs.Machine.{grown};
 ghost use Rattle.addr_locate.specs.Rows.{key_of};
 ghost use Rattle.addr_script.specs.Commands.{IsCommand};
 ghost use Rattle.addr_script.specs.Scripts.{IsLimit};
 ghost use Rattle.addr_script.specs.declared.command.Command.TheVariants.{Done, Read};
-ghost use Rattle.addr_simulate.specs.SimText.{limit_of};
-ghost use Rattle.addr_simulate.specs.SimText.{ask_of, asked_kind, close_answer, count_answer, fail_answer, key_token, load_answer, read_all_answer, read_answer, read_refusal, release_answer, sim_objects, status_answer, Plays, SimText};
+ghost use Rattle.addr_simulate.specs.SimText.{acquire_answer, ask_of, asked_kind, close_answer, count_answer, fail_answer, key_token, load_answer, read_all_answer, read_answer, read_refusal, release_answer, sim_objects, status_answer, Plays, PlaysAs, SimulatesScript};
 ghost use Rattle.addr_simulate.specs.Reading.{IsToldRead, IsToldReadAll};
 
 use crate::sim_image::SimImage;
 use addr_base::{BundleNo, Cause, Items, KeyNo, NoMemory, OpId, Text, token};
-use addr_core::{Ask, Core, Item2, LoadErr, OpStatus, ReadErr};
+use addr_core::{AcquireErr, Ask, Core, Item2, LoadErr, OpStatus, ReadErr};
 use addr_locate::{Kind, Locator, Merge};
-use addr_script::{Command, Reply, Script, content, items_text};
+use addr_script::{Command, Reply, ScriptErr, content, items_text, next_command, read_head};
 use std::alloc::Global;
 use std::fmt::Write;
 
 /// The most events of a script without a limit.
 const DEFAULT_LIMIT: u32 = 100_000;
 
-/// The replies to the commands of the script over the rows, one line each.
-pub fn simulate(alloc: Global, locator: Locator, script: &Script) -> Result<Text, NoMemory>
-    requires limit { IfSome script.now.limit IsLimit }
-    requires commands { AllByRecursion IsCommand script.now.commands }
-    ensures { IfOk result (SimText locator (limit_of script.now) [] script.now.commands) }
+/// The replies to the commands of the script over the rows, one line each. Each line is played as it is read, so that no list of
+/// commands is kept; what was played before a bad line is let go.
+pub fn simulate(alloc: Global, locator: Locator, script: &[u8]) -> Result<Text, ScriptErr>
+    ensures { SimulatesScript locator script.now result }
 {
-    let mut core = Core::open(alloc, locator, limit_of(script))?;
+    let head = read_head(alloc, script)?;
+    let mut core = Core::open(alloc, locator, limit_of(head.limit))?;
     let mut text = String::new(alloc);
-    for command in script.commands.as_slice() {
-        let reply = play(alloc, &mut core, command)?;
-        writeln!(text, "{reply}")?;
+    let mut rest = head.rest;
+    let mut number = head.next;
+    while let Some((command, after)) = next_command(alloc, rest, number)? {
+        play_line(alloc, &mut core, &command, &mut text)?;
+        rest = after;
+        number += 1;
     }
     Ok(Text::from_string(text))
 }
 
-fn limit_of(script: &Script) -> u32
-    ensures { result ≡ limit_of script.now }
+fn limit_of(limit: Option<u32>) -> u32
+    requires { IfSome limit IsLimit }
+    ensures is { result ≡ unwrap_or limit 100000 }
+    ensures fits { IsLimit result }
 {
-    match script.limit {
+    match limit {
         Some(limit) => limit,
         None => DEFAULT_LIMIT,
     }
+}
+
+/// Puts one command to the machine, and writes the line of its reply.
+fn play_line(
+    alloc: Global,
+    core: &mut Core<SimImage>,
+    command: &Command,
+    text: &mut String,
+) -> Result<(), NoMemory>
+    requires { IsCommand command.now }
+    ensures { OnOk result (PlaysAs core.old command.now (string_bytes text.old) core.new (string_bytes text.new)) }
+{
+    let reply = play(alloc, core, command)?;
+    writeln!(text, "{reply}")?;
+    Ok(())
 }
 
 /// Puts one command to the machine, and gives its reply.
@@ -65,8 +83,10 @@ fn play(alloc: Global, core: &mut Core<SimImage>, command: &Command) -> Result<R
             let reply = load(alloc, core, *caller, ask, keys)?;
             Ok(reply)
         }
+        Command::Acquire { caller, op } => Ok(acquire(core, *caller, *op)),
         Command::Release { caller, op } => Ok(release(core, *caller, *op)),
         Command::Status(op) => Ok(status(core, *op)),
+        Command::References(op) => Ok(Reply::References(core.references(*op))),
         Command::Read { op, i } => {
             let reply = read(alloc, core, *op, *i)?;
             Ok(reply)
@@ -80,6 +100,28 @@ fn play(alloc: Global, core: &mut Core<SimImage>, command: &Command) -> Result<R
         Command::Take { worker } => Ok(Reply::Next(core.take(*worker))),
         Command::Done { worker, b } => Ok(done(core, *worker, *b)),
         Command::Fail { worker, b, cause } => Ok(fail(core, *worker, *b, *cause)),
+    }
+}
+
+fn acquire(core: &mut Core<SimImage>, caller: u32, op: OpId) -> Reply
+    ensures reply { result ≡ acquire_answer (acquire_reply core.old.rows core.old.limit core.old.history op) }
+    ensures machine { core.new ≡ grown core.old
+        (acquire_adds (acquire_reply core.old.rows core.old.limit core.old.history op) caller op) }
+{
+    match core.acquire(caller, op) {
+        Ok(()) => Reply::Acquired,
+        Err(AcquireErr::NoHandle) => Reply::NoHandle,
+        Err(
+            AcquireErr::JournalFull {
+                used,
+                reserved,
+                needed,
+            },
+        ) => Reply::JournalFull {
+            used,
+            reserved,
+            needed: u64::from(needed),
+        },
     }
 }
 

@@ -8,7 +8,7 @@ asset 00000000000000000000000000000002 Mesh 1,0 bush,000000000000000000000000000
 asset 00000000000000000000000000000003 Mesh 0 green,00000000000000000000000000000003
 ";
 
-pub const SCRIPTS: [&str; 7] = [
+pub const SCRIPTS: [&str; 9] = [
     // the first path
     "load tree = op 0; count 0 = count 1 queued; release 0 0 = released; count 0 = count 0 absent",
     // several rows under one key, and an unknown key that is passed over
@@ -21,6 +21,9 @@ pub const SCRIPTS: [&str; 7] = [
     "load bush = op 0; take 1 = bundle 1; fail 1 1 missing = failed; status 0 = failed 1 missing; load bush = op 1; take 1 = bundle 0; take 2 = bundle 1; done 1 0 = kept; done 2 1 = kept; status 0 = failed 1 missing; status 1 = ready; count 1 = count 2 resident; release 0 0 = released; release 0 0 = no-handle; status 0 = no-handle",
     // a limit, and closing
     "limit 5; load tree = op 0; load tree = journal-full 1 4 2; release 0 0 = released; load tree = journal-full 2 1 4; close = close; close = closed; load tree = closed",
+    // acquired: an operation stays until it is released as often as it was opened and acquired, and each release has its room
+    "limit 7; load tree = op 0; acquire 0 0 = acquired; acquire 0 0 = journal-full 2 5 2; refs 0 = refs 2; release 0 0 = released; count 0 = count 1 queued; release 0 0 = released; count 0 = count 0 absent; release 0 0 = no-handle; acquire 0 0 = no-handle",
+    "limit 6; load tree = op 0; acquire 0 0 = journal-full 1 4 2",
     // shared by two operations
     "load tree = op 0; load tree = op 1; take 1 = bundle 0; done 1 0 = kept; release 0 0 = released; count 0 = count 1 resident; release 0 1 = released; count 0 = count 0 absent; take 1 = idle; close = close; take 1 = end",
 ];

@@ -8,25 +8,27 @@ use Rattle.addr_base.specs.declared.ids.Digest.{Digest}
 use Rattle.addr_locate.specs.Rows.{Rows, has_sound_deps}
 use Rattle.addr_history.specs.declared.answers.OpStatus.{OpStatus}
 use Rattle.addr_history.specs.declared.event.Event.{Event}
-use Rattle.addr_history.specs.declared.event.Event.TheVariants.{Load, Release, Take, Done, Fail, Close}
+use Rattle.addr_history.specs.declared.event.Event.TheVariants.{Load, Acquire, Release, Take, Done, Fail, Close}
 use Rattle.addr_history.specs.Events.{is_in}
-use Rattle.addr_history.specs.Counts.{has_release, is_unreleased, is_closed, open_count, count_of, needs_of_op, loads_of}
+use Rattle.addr_history.specs.Counts.{references_of, is_unreleased, is_closed, references_in, count_of, needs_of_op, loads_of}
 use Rattle.addr_history.specs.Legal.{Legal}
 use Rattle.addr_history.specs.Places.{is_resident, is_fetched, is_fetched_by, is_queued, queue, bundles_of}
 use Rattle.addr_history.specs.Status.{since_load, first_failure}
 use Rattle.addr_queue.specs.Queue.{Ordered}
 use Rattle.addr_core.specs.Machine.{HasImages, ImagesFit}
 use Rattle.addr_core.specs.declared.courses.Course.{Course}
-use Rattle.addr_core.specs.declared.slots.Slot.{Slot}
+use Rattle.addr_queue.specs.declared.slots.Slot.{Slot}
 use Rattle.addr_core.specs.within.Courses.{times_in, Waiting, waiting_lists}
-use Rattle.addr_core.specs.within.Slots.{is_by}
+use Rattle.addr_queue.specs.Slots.{is_by}
 use Rattle.addr_core.specs.within.Wanting.{wanted_of_op}
 use Rattle.addr_core.specs.declared.wanted.Wanted.{Wanted}
 
--- the event leaves the same bundles resident: it is a Take, a Fail, the Close, or a Done of a bundle whose count is zero
+-- the event leaves the same bundles resident: it is a Take, a Fail, the Close, an Acquire, a Release that leaves a reference, or a
+-- Done of a bundle whose count is zero
 abbrev pub IsQuiet : Rows → List Event → Event → Type 0
 IsQuiet rows h (Load op caller ask) = ⊥
-IsQuiet rows h (Release op caller) = ⊥
+IsQuiet rows h (Acquire op caller) = Unit {0}
+IsQuiet rows h (Release op caller) = 1 < references_of h op
 IsQuiet rows h (Take b worker) = Unit {0}
 IsQuiet rows h (Done b worker) = count_of rows h b ≡ 0
 IsQuiet rows h (Fail b worker cause) = Unit {0}
@@ -77,11 +79,11 @@ missing_of rows h op = count_by (λ b. not (is_resident rows h b)) (needs_of_op 
 abbrev pub lacks : Rows → List Event → OpId → BundleNo → Bool
 lacks rows h op b = is_in b (needs_of_op rows h op) && not (is_resident rows h b)
 
--- each operation's course, and for each bundle the operations that wait for it. Nothing is said of operations that are
--- released, and of those that failed no more than that
+-- each operation's course, and for each bundle the operations that wait for it. Of operations that are released only their
+-- references are told, and of those that failed no more than that
 pub record AreCourses (rows : Rows) (h : List Event) (courses : List Course) (waits : List (List ℕ)) : Type 0 where
   pub many : length courses ≡ loads_of h
-  pub released : (op : OpId) (c : Course) → slice_get courses op.0 ≡ Some c → c.released ≡ has_release h op
+  pub references : (op : OpId) (c : Course) → slice_get courses op.0 ≡ Some c → c.references ≡ references_of h op
   pub failed : (op : OpId) (c : Course) → slice_get courses op.0 ≡ Some c → is_unreleased h op ≡ true → c.failed ≡ failure_of rows h op
   pub missing : (op : OpId) (c : Course) → slice_get courses op.0 ≡ Some c → is_unreleased h op ≡ true → failure_of rows h op ≡ None → c.missing ≡ missing_of rows h op
   pub waiting : (op : OpId) (b : BundleNo) (ws : List ℕ) → slice_get waits b.0 ≡ Some ws → is_unreleased h op ≡ true → failure_of rows h op ≡ None → times_in op.0 ws ≡ (if lacks rows h op b then 1 else 0)
@@ -95,7 +97,7 @@ pub record Holds (rows : Rows) (h : List Event) (wanted : List Wanted) (slots : 
   pub all_lists : length lists ≡ length rows.bundles
   pub in_order : order ≡ record { room = length rows.bundles; bundles = queue rows h }
   pub now_fetched : fetched ≡ count_by (is_fetched h) (bundles_of rows)
-  pub now_open : opens ≡ open_count h
+  pub now_open : opens ≡ references_in h
   pub now_closed : closed ≡ is_closed h
 
 -- what a load looks at
@@ -104,7 +106,7 @@ pub record IsNow (rows : Rows) (limit : ℕ) (h : List Event) (slots : List Slot
   pub are_slots : AreSlots rows h slots
   pub now_queued : queued ≡ length (queue rows h)
   pub now_fetched : fetched ≡ count_by (is_fetched h) (bundles_of rows)
-  pub now_open : opens ≡ open_count h
+  pub now_open : opens ≡ references_in h
   pub now_closed : closed ≡ is_closed h
 
 -- there is room for what each operation that the journal can have adds

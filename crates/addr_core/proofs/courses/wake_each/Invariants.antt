@@ -1,5 +1,5 @@
 use Rattle.std.proofs.Common.{◌≡◌, drop}
-use Rattle.addr_core.specs.within.Changes.{change_each}
+use Rattle.addr_queue.specs.Changes.{change_each}
 use Rattle.addr_core.specs.within.Courses.{woken}
 use Rattle.addr_core.proofs.courses.wake_each.Given as goal
 

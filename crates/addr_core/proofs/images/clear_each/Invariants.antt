@@ -1,6 +1,6 @@
 use Rattle.std.proofs.Common.{◌≡◌, drop, None}
-use Rattle.addr_core.specs.within.Slots.{passes, is_missing}
-use Rattle.addr_core.specs.within.Changes.{cleared_each}
+use Rattle.addr_queue.specs.Slots.{passes, is_missing}
+use Rattle.addr_queue.specs.Changes.{cleared_each}
 use Rattle.addr_core.proofs.images.clear_each.Given as goal
 
 abbrev pub invariant-loop-b : goal.invariant-loop-b

@@ -1,7 +1,7 @@
 use Rattle.std.proofs.Common.{◌≡◌, drop, []}
-use Rattle.addr_core.specs.within.Changes.{cleared_each}
+use Rattle.addr_queue.specs.Changes.{cleared_each}
 use Rattle.addr_core.specs.within.Courses.{waiting_lists}
-use Rattle.addr_core.specs.within.Slots.{passes, is_idle}
+use Rattle.addr_queue.specs.Slots.{passes, is_idle}
 use Rattle.addr_core.proofs.waiters.forget_each.Given as goal
 
 abbrev pub invariant-loop-b : goal.invariant-loop-b

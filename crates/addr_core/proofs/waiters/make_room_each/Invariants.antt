@@ -1,6 +1,6 @@
 use Rattle.std.proofs.Common.{◌≡◌, take}
 use Rattle.addr_core.specs.within.Courses.{HasRoom, waiting_lists}
-use Rattle.addr_core.specs.within.Slots.{passes, is_missing}
+use Rattle.addr_queue.specs.Slots.{passes, is_missing}
 use Rattle.addr_core.proofs.waiters.make_room_each.Given as goal
 
 abbrev pub invariant-loop-b : goal.invariant-loop-b

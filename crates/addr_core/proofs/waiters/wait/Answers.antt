@@ -1,5 +1,5 @@
 use Rattle.std.proofs.Common.{◌∙◌, ap, sym, List, ℕ, [], ◌∷◌, ◌++◌, if◌then◌else◌}
-use Rattle.addr_core.specs.within.Changes.{change}
+use Rattle.addr_queue.specs.Changes.{change}
 use Rattle.addr_core.specs.within.Courses.{Waiting, waiting_lists}
 use Rattle.addr_core.proofs.WaitPlaces.{lists_added, others_kept}
 use Rattle.addr_core.proofs.waiters.wait.Goals as goal

@@ -1,8 +1,8 @@
 use Rattle.std.proofs.Common.{◌∙◌, ap, sym, List, ℕ, [], ◌∷◌, ◌++◌, get_or, if◌then◌else◌}
 use Rattle.addr_base.specs.declared.ids.BundleNo.{BundleNo}
-use Rattle.addr_core.specs.within.Changes.{change}
+use Rattle.addr_queue.specs.Changes.{change}
 use Rattle.addr_core.specs.within.Courses.{waiting_lists}
-use Rattle.addr_core.specs.within.Slots.{passes, is_missing}
+use Rattle.addr_queue.specs.Slots.{passes, is_missing}
 use Rattle.addr_core.proofs.WaitPlaces.{wait_head, wait_step}
 use Rattle.addr_core.proofs.waiters.wait_each.Goals as goal
 

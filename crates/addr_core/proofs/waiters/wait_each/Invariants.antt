@@ -1,7 +1,7 @@
 use Rattle.std.proofs.Common.{◌≡◌, drop, true}
 use Rattle.addr_locate.specs.Rows.{no_repeats}
 use Rattle.addr_core.specs.within.Courses.{HasRoom, waiting_lists, waited_each}
-use Rattle.addr_core.specs.within.Slots.{passes, is_missing}
+use Rattle.addr_queue.specs.Slots.{passes, is_missing}
 use Rattle.addr_core.proofs.waiters.wait_each.Given as goal
 
 abbrev pub invariant-loop-b : goal.invariant-loop-b

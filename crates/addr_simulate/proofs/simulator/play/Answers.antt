@@ -1,7 +1,7 @@
 use Rattle.std.proofs.Common.{◌∙◌, ap, refl}
 use Rattle.addr_locate.specs.Rows.{Rows}
 use Rattle.addr_simulate.specs.SimText.{ask_of}
-use Rattle.addr_simulate.proofs.PlayLemmas.{load_plays, release_plays, status_plays, read_plays, read_all_plays, count_plays, close_plays, take_plays, fail_plays}
+use Rattle.addr_simulate.proofs.PlayLemmas.{load_plays, acquire_plays, release_plays, status_plays, references_plays, read_plays, read_all_plays, count_plays, close_plays, take_plays, fail_plays}
 use Rattle.addr_simulate.proofs.simulator.play.Goals as goal
 
 pub returns-in_ok-reply-in-Load : goal.returns-in_ok-reply-in-Load
@@ -9,11 +9,17 @@ returns-in_ok-reply-in-Load c =
     let ask = c.in_ok-ask-in-Load.ensures.ask ∙ ap (λ (r : Rows). ask_of r c.in-Load.all c.in-Load.mode c.in-Load.kind c.in-Load.keys) c.locator.ensures in
     rw c.in-Load.is (load_plays c.args.core.now c.load.new.core c.in-Load.caller c.in-Load.all c.in-Load.mode c.in-Load.kind c.in-Load.keys c.in_ok-ask-in-Load.ask c.in_ok-reply-in-Load.reply ask c.in_ok-reply-in-Load.ensures.grows c.in_ok-reply-in-Load.ensures.reply)
 
+pub returns-in-Acquire : goal.returns-in-Acquire
+returns-in-Acquire c = rw c.in-Acquire.is (acquire_plays c.args.core.now c.acquire.new.core c.in-Acquire.caller c.in-Acquire.op c.acquire.result c.acquire.ensures.machine c.acquire.ensures.reply)
+
 pub returns-in-Release : goal.returns-in-Release
 returns-in-Release c = rw c.in-Release.is (release_plays c.args.core.now c.release.new.core c.in-Release.caller c.in-Release.op c.release.result c.release.ensures.machine c.release.ensures.reply)
 
 pub returns-in-Status : goal.returns-in-Status
 returns-in-Status c = rw c.in-Status.is (status_plays c.args.core.now c.args.core.now c.in-Status.op c.status.result refl c.status.ensures)
+
+pub returns-in-References : goal.returns-in-References
+returns-in-References c = rw c.in-References.is (references_plays c.args.core.now c.args.core.now c.in-References.op c.references.result refl c.references.ensures)
 
 pub returns-in_ok-reply-in-Read : goal.returns-in_ok-reply-in-Read
 returns-in_ok-reply-in-Read c = rw c.in-Read.is (read_plays c.args.core.now c.args.core.now c.in-Read.op c.in-Read.i c.in_ok-reply-in-Read.reply refl c.in_ok-reply-in-Read.ensures)

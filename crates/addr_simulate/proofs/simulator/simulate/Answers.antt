@@ -1,33 +1,40 @@
-use Rattle.std.proofs.Common.{◌≤◌, ◌<◌, ◌∙◌, ◌+◌, ◌∷◌, [], List, sym, ap, subst, drop, string_bytes, length, get_or}
-use Rattle.std.proofs.lemmas.List.{drop_more, drop_all}
-use Rattle.addr_script.specs.declared.command.Command.{Command}
-use Rattle.addr_simulate.specs.SimText.{limit_of}
-use Rattle.addr_simulate.specs.SimText.{SimText}
-use Rattle.addr_simulate.proofs.PlayLemmas.{text_step, text_end, steady_line}
+use Rattle.std.proofs.Common.{◌∙◌, ap, sym, subst, List, ℕ, Ok, string_bytes}
+use Rattle.std.specs.Prelude.{unwrap_or}
+use Rattle.addr_script.specs.declared.error.ScriptErr.TheVariants.{NoMemory}
+use Rattle.addr_simulate.specs.SimText.{SimulatesScript}
+use Rattle.addr_simulate.proofs.LineLemmas.{SoFar, all_played, found_none, found_some, none_played, none_yet, one_more_line, told_as}
 use Rattle.addr_simulate.proofs.simulator.simulate.Goals as goal
 
-pub loop-command-preserved : goal.loop-command-preserved
-loop-command-preserved c =
-    let rows = c.args.locator in
-    let commands = c.args.script.now.commands in
-    let limit = limit_of c.args.script.now in
-    let i = c.loop-command.command-index in
-    let kept = c.loop-command.invariant in
-    let played = steady_line rows limit c.loop-command.core c.play.new.core c.command-item.result c.in_ok-reply.reply kept.rows_stay kept.limit_stays c.in_ok-reply.ensures in
-    let Inside : List Command → Type 0 = λ xs. i < length xs in
-    let inside = subst Inside c.as_slice-command-items.ensures c.loop-command-test.true in
-    let item = c.command-item.is ∙ ap (λ (xs : List Command). get_or xs i c.command-item.result) c.as_slice-command-items.ensures in
-    let split = drop_more commands i c.command-item.result inside ∙ ap (λ (x : Command). x ∷ drop (i + 1) commands) (sym item) in
-    record {
-      whole = text_step rows limit c.loop-command.core.history c.play.new.core.history (drop i commands) (drop (i + 1) commands) c.command-item.result c.in_ok-reply.reply (string_bytes c.loop-command.text) (string_bytes c.writeln.new.self) commands kept.whole split played c.in_ok-writeln.ensures.bytes;
-      rows_stay = c.in_ok-reply.ensures.rows ∙ kept.rows_stay;
-      limit_stays = c.in_ok-reply.ensures.limit ∙ kept.limit_stays;
-    }
+pub loop-text-init : goal.loop-text-init
+loop-text-init c =
+    let head = c.in_ok-head.head in
+    let made = c.in_ok-core.ensures in
+    subst (λ (text : List ℕ). SoFar c.args.locator (unwrap_or head.limit 100000) head.rest.now head.next c.in_ok-core.core text head.rest.now head.next) (sym c.new-text.ensures.bytes)
+    (none_yet c.args.locator (unwrap_or head.limit 100000) head.rest.now head.next c.in_ok-core.core c.in_ok-head.ensures.few (ap (λ m. m.history) made) (ap (λ m. m.rows) made) (ap (λ m. m.limit) made ∙ c.limit_of.ensures.is))
+
+pub returns-in_err-command : goal.returns-in_err-command
+returns-in_err-command c =
+    let head = c.in_ok-head.head in
+    told_as c.args.locator c.args.script.now c.in_err-command.field-0.0 c.from_residual-in_err-command.result c.from_residual-in_err-command.ensures.1
+    (none_played c.args.locator c.args.script.now head.rest.now head.limit head.vars head.next c.in_ok-head.ensures.begins c.loop-text.core (string_bytes c.loop-text.text) c.loop-text.rest.now c.loop-text.number c.in_err-command.field-0.0 c.loop-text.invariant c.in_err-command.ensures.refused)
+
+pub returns-in_err-play_line : goal.returns-in_err-play_line
+returns-in_err-play_line c = told_as c.args.locator c.args.script.now NoMemory c.from_residual-in_err-play_line.result c.from_residual-in_err-play_line.ensures.1 tt
+
+pub loop-text-preserved-in_ok-play_line : goal.loop-text-preserved-in_ok-play_line
+loop-text-preserved-in_ok-play_line c =
+    let head = c.in_ok-head.head in
+    one_more_line c.args.locator (unwrap_or head.limit 100000) head.rest.now head.next c.loop-text.core c.play_line.new.core (string_bytes c.loop-text.text) (string_bytes c.play_line.new.text) c.loop-text.rest.now c.in-Some.after.now c.loop-text.number c.in-Some.command
+    c.loop-text.invariant (found_some _ _ _ _ c.in-Some.is c.in_ok-command.ensures.found) c.in_ok-play_line.ensures
+
+pub loop-text-preserved : goal.loop-text-preserved
+loop-text-preserved c =
+    let head = c.in_ok-head.head in
+    one_more_line c.args.locator (unwrap_or head.limit 100000) head.rest.now head.next c.loop-text.core c.play_line.new.core (string_bytes c.loop-text.text) (string_bytes c.play_line.new.text) c.loop-text.rest.now c.in-Some.after.now c.loop-text.number c.in-Some.command
+    c.loop-text.invariant (found_some _ _ _ _ c.in-Some.is c.in_ok-command.ensures.found) c.in_ok-play_line.ensures
 
 pub returns : goal.returns
 returns c =
-    let commands = c.args.script.now.commands in
-    let Past : List Command → Type 0 = λ xs. length xs ≤ c.loop-command.command-index in
-    let none = drop_all c.loop-command.command-index commands (subst Past c.as_slice-command-items.ensures c.loop-command-test.false) in
-    subst (SimText c.args.locator (limit_of c.args.script.now) [] commands) (sym c.from_string.ensures)
-    (text_end c.args.locator (limit_of c.args.script.now) c.loop-command.core.history (drop c.loop-command.command-index commands) (string_bytes c.loop-command.text) commands c.loop-command.invariant.whole none)
+    let head = c.in_ok-head.head in
+    subst (λ (text : List ℕ). SimulatesScript c.args.locator c.args.script.now (Ok text)) (sym c.from_string.ensures)
+    (all_played c.args.locator c.args.script.now head.rest.now head.limit head.vars head.next c.in_ok-head.ensures.begins c.loop-text.core (string_bytes c.loop-text.text) c.loop-text.rest.now c.loop-text.number c.loop-text.invariant (found_none _ _ _ c.in_default.is c.in_ok-command.ensures.found))

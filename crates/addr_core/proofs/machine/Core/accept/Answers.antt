@@ -5,10 +5,10 @@ use Rattle.addr_base.specs.declared.ids.BundleNo.{BundleNo}
 use Rattle.addr_base.specs.declared.ids.OpId.{OpId}
 use Rattle.addr_history.specs.declared.event.Event.TheVariants.{Load}
 use Rattle.addr_core.proofs.Advance.{journal_has_room, journal_load, same_machine, same_images, load_answer}
-use Rattle.addr_core.specs.within.Changes.{change_each}
-use Rattle.addr_core.specs.declared.slots.Slot.{Slot}
+use Rattle.addr_queue.specs.Changes.{change_each}
+use Rattle.addr_queue.specs.declared.slots.Slot.{Slot}
 use Rattle.addr_core.specs.within.Courses.{Waiting, waiting_lists}
-use Rattle.addr_core.specs.within.Slots.{passes, is_missing, taken_in}
+use Rattle.addr_queue.specs.Slots.{passes, is_missing, taken_in}
 use Rattle.addr_core.proofs.Machines.{make_core}
 use Rattle.addr_core.proofs.Holding.{holds_load, out_not_there}
 use Rattle.std.specs.List.{count_by}
@@ -20,7 +20,7 @@ use Rattle.addr_core.proofs.Advance.{room, loads_le}
 use Rattle.addr_history.proofs.CountSteps.{load_stays}
 use Rattle.addr_queue.specs.Queue.{Ordered}
 use Rattle.addr_core.specs.within.Courses.{HasRoom, waited_each}
-use Rattle.addr_core.specs.within.Slots.{joined_each, is_out}
+use Rattle.addr_queue.specs.Slots.{joined_each, is_out}
 use Rattle.addr_history.proofs.QueueSteps.{needs_once}
 use Rattle.addr_core.proofs.Nows.{lacking_is}
 use Rattle.addr_core.proofs.Machines.{opens_fits}
@@ -159,7 +159,7 @@ invariant_of-self-2 g c =
     (journal_load g.I.Image.fits c.self.inside.locator c.self.inside.limit c.self.inside.events c.self.inside.images c.self.invariant.journal op c.args.caller c.args.ask answer c.push_within-2.new.items c.push_within-2.ensures.items c.push_within-2.ensures.len c.push_within-2.ensures.room)
     (h ++ e ∷ []) c.push_within-2.ensures.items (c.self.inside.wanted.items ++ wanted_of rows c.args.ask ∷ []) (c.push_within-3.ensures.items ∙ ap (λ (w : Wanted). c.self.inside.wanted.items ++ w ∷ []) all)
     (change_each taken_in (map (λ (b : BundleNo). b.0) ns) c.self.inside.slots.items) slots
-    (c.self.inside.courses.items ++ record { missing = c.lacking-missing.result; failed = None; released = false } ∷ []) c.push_within.ensures.items
+    (c.self.inside.courses.items ++ record { missing = c.lacking-missing.result; failed = None; references = 1 } ∷ []) c.push_within.ensures.items
     (waited_each (passes is_missing c.self.inside.slots.items) c.len.result ns (waiting_lists c.self.inside.waits.items)) lists
     (record { room = c.self.inside.queue.room; bundles = joined_each (passes is_out c.self.inside.slots.items) ns c.self.inside.queue.bundles }) order
     (holds_load c.self.inside.locator c.self.inside.limit c.self.inside.events.items c.self.inside.wanted.items c.self.inside.slots.items c.self.inside.courses.items (waiting_lists c.self.inside.waits.items) c.self.inside.queue c.self.inside.fetched c.self.inside.opened c.self.inside.closed c.self.invariant.holds c.self.invariant.journal.known.sound c.self.invariant.journal.known.short op c.args.caller c.args.ask answer c.self.invariant.journal.known.legal c.lacking-missing.result missing)

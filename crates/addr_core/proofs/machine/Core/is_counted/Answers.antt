@@ -1,7 +1,7 @@
 use Rattle.std.proofs.Common.{◌∙◌, ap, nat_lt}
-use Rattle.addr_core.specs.declared.slots.Slot.{Slot}
+use Rattle.addr_queue.specs.declared.slots.Slot.{Slot}
 use Rattle.addr_core.specs.within.Courses.{waiting_lists}
-use Rattle.addr_core.specs.within.Slots.{passes}
+use Rattle.addr_queue.specs.Slots.{passes}
 use Rattle.addr_core.proofs.Machines.{counted_at}
 use Rattle.addr_core.proofs.machine.Core.is_counted.Goals as goal
 

@@ -1,7 +1,7 @@
 use Rattle.std.proofs.Common.{◌∙◌, ap}
-use Rattle.addr_core.specs.declared.slots.Slot.{Slot}
+use Rattle.addr_queue.specs.declared.slots.Slot.{Slot}
 use Rattle.addr_core.specs.within.Courses.{waiting_lists}
-use Rattle.addr_core.specs.within.Slots.{passes, is_by}
+use Rattle.addr_queue.specs.Slots.{passes, is_by}
 use Rattle.addr_core.proofs.Machines.{fetched_by_at}
 use Rattle.addr_core.proofs.machine.Core.is_fetched_by.Goals as goal
 

@@ -5,9 +5,9 @@ use Rattle.addr_history.specs.declared.event.Event.TheVariants.{Done}
 use Rattle.addr_history.proofs.Legality.{extend}
 use Rattle.addr_core.specs.Machine.{HasImages, ImagesFit}
 use Rattle.addr_core.proofs.Advance.{journal_has_room, journal_push, same_machine, done_answer, kept_held, kept_images, set_fit, machine}
-use Rattle.addr_core.specs.within.Changes.{change, change_each}
+use Rattle.addr_queue.specs.Changes.{change, change_each}
 use Rattle.addr_core.specs.within.Courses.{Waiting, waiting_lists, woken}
-use Rattle.addr_core.specs.within.Slots.{ended}
+use Rattle.addr_queue.specs.Slots.{ended}
 use Rattle.addr_core.proofs.Machines.{make_core, fetched_pos, list_there}
 use Rattle.addr_core.proofs.Holding.{holds_kept}
 use Rattle.addr_core.proofs.machine.Core.keep.Goals as goal

@@ -6,10 +6,10 @@ use Rattle.addr_history.specs.declared.event.Event.TheVariants.{Release}
 use Rattle.addr_history.proofs.Legality.{extend}
 use Rattle.addr_core.specs.Machine.{HasImages, ImagesFit}
 use Rattle.addr_core.proofs.Advance.{journal_has_room, journal_push, same_machine, release_answer, machine}
-use Rattle.addr_core.specs.within.Changes.{change, change_each}
-use Rattle.addr_core.specs.declared.slots.Slot.{Slot}
+use Rattle.addr_queue.specs.Changes.{change, change_each}
+use Rattle.addr_queue.specs.declared.slots.Slot.{Slot}
 use Rattle.addr_core.specs.within.Courses.{Waiting, waiting_lists, given_back}
-use Rattle.addr_core.specs.within.Slots.{passes, leaves, is_missing, is_idle, let_go}
+use Rattle.addr_queue.specs.Slots.{passes, leaves, is_missing, is_idle, let_go}
 use Rattle.addr_core.proofs.Machines.{make_core, opens_pos}
 use Rattle.addr_core.proofs.Holding.{holds_release, leaves_there}
 use Rattle.addr_core.specs.within.Wanting.{nothing, wanted_at}
@@ -20,8 +20,8 @@ use Rattle.addr_core.proofs.Advance.{images_length, left_held, left_fit}
 use Rattle.addr_core.proofs.WantedSteps.{wanted_are}
 use Rattle.addr_locate.specs.Rows.{no_repeats}
 use Rattle.addr_queue.specs.Queue.{Ordered}
-use Rattle.addr_core.specs.within.Slots.{left_each}
-use Rattle.addr_core.specs.within.Changes.{cleared_each}
+use Rattle.addr_queue.specs.Slots.{left_each}
+use Rattle.addr_queue.specs.Changes.{cleared_each}
 use Rattle.addr_history.proofs.StatusSteps.{op_needs_once}
 use Rattle.addr_core.proofs.Clearing.{released_images}
 use Rattle.addr_core.proofs.HeldImages.{images_held}
@@ -30,12 +30,12 @@ use Rattle.addr_core.proofs.machine.Core.let_go.Goals as goal
 
 pub push_within-requires : goal.push_within-requires
 push_within-requires g c =
-    let is = rw (← c.self.view_is) at c.requires in
+    let is = rw (← c.self.view_is) at c.requires.unreleased in
     journal_has_room g.I.Image.fits c.self.inside.locator c.self.inside.limit c.self.inside.events c.self.inside.images c.self.invariant.journal (Release c.args.op c.args.caller) (release_answer c.self.inside.locator c.self.inside.limit c.self.inside.events.items c.args.op c.args.caller is)
 
 pub leave_each-requires-clause-once : goal.leave_each-requires-clause-once
 leave_each-requires-clause-once g c =
-    let is = rw (← c.self.view_is) at c.requires in
+    let is = rw (← c.self.view_is) at c.requires.unreleased in
     let needs : c.as_slice-bundles.result.now ≡ needs_of_op c.self.inside.locator c.self.inside.events.items c.args.op =
     c.as_slice-bundles.ensures ∙ ap (λ (w : Wanted). w.needs) (c.take_wanted-wanted.ensures.taken ∙ ap (λ (l : List Wanted). wanted_at l c.args.op) c.as_mut_slice.ensures.value
     ∙ wanted_are c.self.inside.locator c.self.inside.limit c.self.inside.events.items c.self.invariant.journal.known.legal c.self.inside.wanted.items c.self.invariant.holds.are_wanted c.args.op is) in
@@ -47,12 +47,12 @@ leave_each-requires-clause-there g c = λ b asked passed. leaves_there c.self.in
 
 pub overflow_sub-self : goal.overflow_sub-self
 overflow_sub-self g c =
-    let is = rw (← c.self.view_is) at c.requires in
+    let is = rw (← c.self.view_is) at c.requires.unreleased in
     opens_pos c.self.inside.locator c.self.inside.limit c.self.inside.events.items c.self.inside.wanted.items c.self.inside.slots.items c.self.inside.courses.items (waiting_lists c.self.inside.waits.items) c.self.inside.queue c.self.inside.fetched c.self.inside.opened c.self.inside.closed c.self.invariant.holds c.self.invariant.journal.known.sound c.self.invariant.journal.known.legal c.args.op c.args.caller is
 
 pub invariant_of-self : goal.invariant_of-self
 invariant_of-self g c =
-    let is = rw (← c.self.view_is) at c.requires in
+    let is = rw (← c.self.view_is) at c.requires.unreleased in
     let rows = c.self.inside.locator in
     let limit = c.self.inside.limit in
     let h = c.self.inside.events.items in
@@ -65,7 +65,7 @@ invariant_of-self g c =
     ∙ wanted_are c.self.inside.locator c.self.inside.limit c.self.inside.events.items c.self.invariant.journal.known.legal c.self.inside.wanted.items c.self.invariant.holds.are_wanted c.args.op is) in
     let once : no_repeats c.as_slice-bundles.result.now ≡ true = ap no_repeats needs ∙ op_needs_once c.self.inside.locator c.self.inside.limit c.self.inside.events.items c.args.op in
     let ns = c.as_slice-bundles.result.now in
-    let after = holds_release c.self.inside.locator c.self.inside.limit c.self.inside.events.items c.self.inside.wanted.items c.self.inside.slots.items c.self.inside.courses.items (waiting_lists c.self.inside.waits.items) c.self.inside.queue c.self.inside.fetched c.self.inside.opened c.self.inside.closed c.self.invariant.holds c.self.invariant.journal.known.sound ns c.args.op c.args.caller legal needs once in
+    let after = holds_release c.self.inside.locator c.self.inside.limit c.self.inside.events.items c.self.inside.wanted.items c.self.inside.slots.items c.self.inside.courses.items (waiting_lists c.self.inside.waits.items) c.self.inside.queue c.self.inside.fetched c.self.inside.opened c.self.inside.closed c.self.invariant.holds c.self.invariant.journal.known.sound ns c.args.op c.args.caller legal needs (rw (← c.self.view_is) at c.requires.last) once in
     let slots : (with_items c.self.inside.slots c.let_go_each.new.slots).items ≡ change_each let_go (map (λ (b : BundleNo). b.0) ns) c.self.inside.slots.items =
     with_items_is c.self.inside.slots c.let_go_each.new.slots (c.let_go_each.auto.slots ∙ c.as_mut_slice-2.ensures.len) ∙ c.let_go_each.ensures ∙ ap (change_each let_go (map (λ (b : BundleNo). b.0) ns)) c.as_mut_slice-2.ensures.value in
     let order : c.leave_each.new.queue ≡ record { room = c.self.inside.queue.room; bundles = left_each (passes leaves c.self.inside.slots.items) ns c.self.inside.queue.bundles } =
@@ -96,7 +96,7 @@ invariant_of-self g c =
 
 pub returns : goal.returns
 returns g c =
-    let is = rw (← c.self.view_is) at c.requires in
+    let is = rw (← c.self.view_is) at c.requires.unreleased in
     let rows = c.self.inside.locator in
     let limit = c.self.inside.limit in
     let h = c.self.inside.events.items in
@@ -109,7 +109,7 @@ returns g c =
     ∙ wanted_are c.self.inside.locator c.self.inside.limit c.self.inside.events.items c.self.invariant.journal.known.legal c.self.inside.wanted.items c.self.invariant.holds.are_wanted c.args.op is) in
     let once : no_repeats c.as_slice-bundles.result.now ≡ true = ap no_repeats needs ∙ op_needs_once c.self.inside.locator c.self.inside.limit c.self.inside.events.items c.args.op in
     let ns = c.as_slice-bundles.result.now in
-    let after = holds_release c.self.inside.locator c.self.inside.limit c.self.inside.events.items c.self.inside.wanted.items c.self.inside.slots.items c.self.inside.courses.items (waiting_lists c.self.inside.waits.items) c.self.inside.queue c.self.inside.fetched c.self.inside.opened c.self.inside.closed c.self.invariant.holds c.self.invariant.journal.known.sound ns c.args.op c.args.caller legal needs once in
+    let after = holds_release c.self.inside.locator c.self.inside.limit c.self.inside.events.items c.self.inside.wanted.items c.self.inside.slots.items c.self.inside.courses.items (waiting_lists c.self.inside.waits.items) c.self.inside.queue c.self.inside.fetched c.self.inside.opened c.self.inside.closed c.self.invariant.holds c.self.invariant.journal.known.sound ns c.args.op c.args.caller legal needs (rw (← c.self.view_is) at c.requires.last) once in
     let slots : (with_items c.self.inside.slots c.let_go_each.new.slots).items ≡ change_each let_go (map (λ (b : BundleNo). b.0) ns) c.self.inside.slots.items =
     with_items_is c.self.inside.slots c.let_go_each.new.slots (c.let_go_each.auto.slots ∙ c.as_mut_slice-2.ensures.len) ∙ c.let_go_each.ensures ∙ ap (change_each let_go (map (λ (b : BundleNo). b.0) ns)) c.as_mut_slice-2.ensures.value in
     let left : (with_items c.self.inside.images c.clear_each.new.images).items ≡ images_left rows (h ++ e ∷ []) images =

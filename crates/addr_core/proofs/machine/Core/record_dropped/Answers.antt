@@ -4,9 +4,9 @@ use Rattle.std.specs.Vec.{with_items}
 use Rattle.addr_history.specs.declared.event.Event.TheVariants.{Done}
 use Rattle.addr_history.proofs.Legality.{extend}
 use Rattle.addr_core.proofs.Advance.{journal_has_room, journal_record, same_machine, same_images, quiet_stays, done_answer}
-use Rattle.addr_core.specs.within.Changes.{change}
+use Rattle.addr_queue.specs.Changes.{change}
 use Rattle.addr_core.specs.within.Courses.{waiting_lists}
-use Rattle.addr_core.specs.within.Slots.{ended}
+use Rattle.addr_queue.specs.Slots.{ended}
 use Rattle.addr_core.proofs.Machines.{make_core, fetched_pos}
 use Rattle.addr_core.proofs.Holding.{holds_dropped}
 use Rattle.addr_core.proofs.machine.Core.record_dropped.Goals as goal

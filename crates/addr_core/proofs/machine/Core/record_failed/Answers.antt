@@ -5,9 +5,9 @@ use Rattle.addr_history.specs.declared.answers.OpStatus.TheVariants.{Failed}
 use Rattle.addr_history.specs.declared.event.Event.TheVariants.{Fail}
 use Rattle.addr_history.proofs.Legality.{extend}
 use Rattle.addr_core.proofs.Advance.{journal_has_room, journal_record, same_machine, same_images, quiet_stays}
-use Rattle.addr_core.specs.within.Changes.{change, change_each}
+use Rattle.addr_queue.specs.Changes.{change, change_each}
 use Rattle.addr_core.specs.within.Courses.{Waiting, waiting_lists, failed_by}
-use Rattle.addr_core.specs.within.Slots.{ended}
+use Rattle.addr_queue.specs.Slots.{ended}
 use Rattle.addr_core.proofs.Machines.{make_core, fail_answer, fetched_pos, list_there}
 use Rattle.addr_core.proofs.Holding.{holds_fail}
 use Rattle.addr_core.proofs.machine.Core.record_failed.Goals as goal

@@ -3,9 +3,9 @@ use Rattle.std.proofs.lemmas.List.{with_items_is}
 use Rattle.std.specs.Vec.{with_items}
 use Rattle.addr_history.specs.declared.event.Event.TheVariants.{Take}
 use Rattle.addr_core.proofs.Advance.{journal_has_room, same_machine, same_images, quiet_stays}
-use Rattle.addr_core.specs.within.Changes.{change}
+use Rattle.addr_queue.specs.Changes.{change}
 use Rattle.addr_core.specs.within.Courses.{waiting_lists}
-use Rattle.addr_core.specs.within.Slots.{taken}
+use Rattle.addr_queue.specs.Slots.{taken}
 use Rattle.addr_core.proofs.Machines.{first_there, fetched_fits, core_take}
 use Rattle.addr_core.proofs.machine.Core.record_take.Goals as goal
 

@@ -1,0 +1,3 @@
+pub mod Duplicates
+pub mod Counting
+pub mod Isolation

@@ -1,0 +1,3 @@
+pub mod Checking
+pub mod FromCauses
+pub mod within

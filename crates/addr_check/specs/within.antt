@@ -1,0 +1,2 @@
+-- What private functions say, and no clause of a public call reaches.
+pub mod Steps

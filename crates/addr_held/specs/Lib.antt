@@ -1,0 +1,4 @@
+pub mod Opening
+pub mod FromDepot
+pub mod Laws
+pub mod within

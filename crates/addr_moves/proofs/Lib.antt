@@ -1,0 +1,16 @@
+pub mod FirstLemmas
+pub mod HolderLemmas
+pub mod ToldLemmas
+pub mod GroupLemmas
+pub mod KeptRowLemmas
+pub mod AssetLemmas
+pub mod LeastLemmas
+pub mod AnewLemmas
+pub mod LookLemmas
+pub mod PlaceLemmas
+pub mod WayLemmas
+pub mod ChangeLemmas
+pub mod BadLemmas
+pub mod KnownLemmas
+pub mod FateLemmas
+pub mod KnowingLemmas

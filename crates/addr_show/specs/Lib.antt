@@ -1,0 +1,4 @@
+pub mod FromCauses
+pub mod Printing
+pub mod AnalyzeText
+pub mod Analyzing
