@@ -31,7 +31,7 @@ fn prints_one_line_of_each_end(rt: HostRuntime) -> Result<(), Fail> {
         (["build", "F"], 99u32, 0u8, "built 1 1 1\n"),
         (["build", "E"], 99, 4, "error 4 2 - 0\n"),
         (["build", "N"], 99, 4, "error 4 1 - 0\n"),
-        (["build", "F"], 4, 3, "error 3 depot\n"),
+        (["build", "F"], 6, 3, "error 3 depot\n"),
         (["plan", "F"], 99, 2, "error 2 usage\n"),
     ] {
         let mut depot = folder(rt.alloc(), &[fails])?;
