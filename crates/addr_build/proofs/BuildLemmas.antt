@@ -28,7 +28,8 @@ use Rattle.addr_build.proofs.AfterLemmas.{built-held, built-shows, built-sound, 
 use Rattle.addr_build.proofs.PutLemmas.{if-told, lays-same, same-then, told-at}
 use Rattle.addr_build.proofs.ServeLemmas.{AfterSome, begun-holds, moments-some}
 
-some-and : (o : Option (List MemFile)) (P : List MemFile → Type 0) (x : List MemFile) → o ≡ Some x → P x → IsSomeAnd o P
+-- what holds of the files that are told
+pub some-and : (o : Option (List MemFile)) (P : List MemFile → Type 0) (x : List MemFile) → o ≡ Some x → P x → IsSomeAnd o P
 some-and None P x is holds = absurd (cc is)
 some-and (Some y) P x is holds = let same : x ≡ y = cc is in subst P same holds
 

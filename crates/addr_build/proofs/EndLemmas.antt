@@ -30,7 +30,7 @@ use Rattle.addr_build.specs.Endings.{Ends, IsTakenFirst, LaysUntaken, PutRose, k
 use Rattle.addr_build.specs.within.Testing.{IsSpotOf, Owes, Tells}
 use Rattle.addr_build.specs.Moments.{LaysAll, LaysSome}
 use Rattle.addr_build.specs.Putting.{Lays, file_of}
-use Rattle.addr_build.proofs.PutLemmas.{lays-none, lays-some-none, lays-same, lays-all-same, lays-then, lays-all-then, lays-more, there-all, told-at}
+use Rattle.addr_build.proofs.PutLemmas.{lays-none, lays-some-none, lays-same, lays-all-same, lays-then, lays-all-then, there-all, told-at}
 
 -- ---- answers
 

@@ -17,11 +17,13 @@ use Rattle.addr_project.specs.Reading.{path}
 use Rattle.addr_state.proofs.NameBytes.{digits_len}
 use Rattle.addr_state.specs.Files.{file_name, side_folder}
 use Rattle.addr_walks.proofs.Lists.{sorted-once}
+use Rattle.addr_walks.specs.Once.{AreOnce}
 use Rattle.addr_walks.specs.Places.{EachAt}
 use Rattle.addr_release.specs.Built.{IsBundleOf, ReleaseBundle}
 use Rattle.addr_release.specs.Names.{digest_from, state_file}
 use Rattle.addr_release.specs.Puts.{bundle_put, bundle_tests, state_test}
 use Rattle.addr_build.proofs.EndLemmas.{Apart}
+use Rattle.addr_build.specs.Making.{IsKeyed}
 
 front-same : (m n s t : List ℕ) → length s ≡ length t → m ++ s ≡ n ++ t → m ≡ n
 front-same [] [] s t long e = refl
@@ -63,33 +65,46 @@ unfolding first-of
 state-apart digest false x e = let first : 108 ≡ 115 = ap first-of e in omega (arith, first)
 state-apart digest true x e = let first : 114 ≡ 115 = ap first-of e in omega (arith, first)
 
-module _ (p : Project) (plan : Plan) (placed : IsPlaced p plan) where
-  -- bundles of different numbers have different keys
-  pub keys-apart : (b c : ℕ) (x y : ReleaseBundle) → IsBundleOf p plan b x → IsBundleOf p plan c y → b < c → x.row.key ≢ y.row.key
-  keys-apart b c x y one two less same =
-      let names = key-name one.bundle.name two.bundle.name (digest_from x.file) (digest_from y.file) (digests-fit x.file) (digests-fit y.file) (sym one.told.key ∙ same ∙ two.told.key) in
-      let number : b ≡ c = sorted-once nat_list_cmp_total (map (λ (b : PlanBundle). b.name) plan.bundles) placed.by_name b c two.bundle.name
-      (to_map (λ (b : PlanBundle). b.name) plan.bundles b one.bundle one.at ∙ ap Some names) (to_map (λ (b : PlanBundle). b.name) plan.bundles c two.bundle two.at) in
-      omega (arith, less, number)
+-- bundles of different numbers have different keys
+abbrev pub KeysApart : (ℕ → ReleaseBundle → Type 0) → Type 0
+KeysApart is_bundle = (b c : ℕ) (x y : ReleaseBundle) → is_bundle b x → is_bundle c y → b < c → x.row.key ≢ y.row.key
 
-  module _ (folder : List ℕ) (bundles : List ReleaseBundle) (each : EachAt (IsBundleOf p plan) bundles) where
-    all-puts : (P : MemFile → Type 0) (xs : List ReleaseBundle) → ((k : ℕ) (x : ReleaseBundle) → slice_get xs k ≡ Some x → P (bundle_put folder x)) → AllByRecursion P (map (bundle_put folder) xs)
-    all-puts P [] holds = tt
-    all-puts P (x ∷ xs) holds = (holds 0 x refl, all-puts P xs (λ k y at. holds (suc k) y at))
+-- keys of one number alone are equal, where the names of a placement differ
+pub keyed-once : (plan : Plan) → AreOnce (map (λ (b : PlanBundle). b.name) plan.bundles) → (b c : ℕ) (x y : List ℕ) → IsKeyed plan b x → IsKeyed plan c y → x ≡ y → b ≡ c
+keyed-once plan once b c x y one two same =
+    let names = key-name one.bundle.name two.bundle.name one.digest two.digest one.fits two.fits (sym one.is ∙ same ∙ two.is) in
+    once b c two.bundle.name
+    (to_map (λ (b : PlanBundle). b.name) plan.bundles b one.bundle one.at ∙ ap Some names) (to_map (λ (b : PlanBundle). b.name) plan.bundles c two.bundle two.at)
 
-    -- the puts of earlier bundles have no name that is tested for a later one
-    pub bundle-apart : (made : ReleaseBundle) → IsBundleOf p plan (length bundles) made → (n : ℕ) → Apart folder (map (bundle_put folder) bundles) (bundle_tests n made)
-    bundle-apart made is n = (on false, (on true, tt))
-      where
-        on : (side : Bool) → AllByRecursion (λ f. f.name ≢ path folder (side_folder side ++ made.row.key)) (map (bundle_put folder) bundles)
-        on side = all-puts (λ f. f.name ≢ path folder (side_folder side ++ made.row.key)) bundles (λ k x at same.
-            keys-apart k (length bundles) x made (each k x at) is (slice_get_within bundles k x at)
-            (side-key x.remote side x.row.key made.row.key (path-same folder (side_folder x.remote ++ x.row.key) (side_folder side ++ made.row.key) same)))
+pub keyed-apart : (plan : Plan) (is_bundle : ℕ → ReleaseBundle → Type 0) → AreOnce (map (λ (b : PlanBundle). b.name) plan.bundles)
+    → ((b : ℕ) (made : ReleaseBundle) → is_bundle b made → IsKeyed plan b made.row.key) → KeysApart is_bundle
+keyed-apart plan is_bundle once keyed b c x y one two less same =
+    let number = keyed-once plan once b c x.row.key y.row.key (keyed b x one) (keyed c y two) same in
+    omega (arith, less, number)
 
-    -- and none that is tested for the state
-    pub state-beside : (n : ℕ) (bytes : List ℕ) → Apart folder (map (bundle_put folder) bundles) (state_test n bytes ∷ [])
-    state-beside n bytes = (
-      all-puts (λ f. f.name ≢ path folder (state_file (Some (digest_from bytes)))) bundles (λ k x at same.
-          state-apart (digest_from bytes) x.remote x.row.key (path-same folder (side_folder x.remote ++ x.row.key) (state_file (Some (digest_from bytes))) same)),
-      tt,
-    )
+-- so those of a full build
+pub built-apart : (p : Project) (plan : Plan) → IsPlaced p plan → KeysApart (IsBundleOf p plan)
+built-apart p plan placed = keyed-apart plan (IsBundleOf p plan) (sorted-once nat_list_cmp_total (map (λ (b : PlanBundle). b.name) plan.bundles) placed.by_name)
+    (λ b made is. record { bundle = is.bundle; at = is.at; digest = digest_from made.file; fits = digests-fit made.file; is = is.told.key })
+
+all-puts : (folder : List ℕ) (P : MemFile → Type 0) (xs : List ReleaseBundle) → ((k : ℕ) (x : ReleaseBundle) → slice_get xs k ≡ Some x → P (bundle_put folder x)) → AllByRecursion P (map (bundle_put folder) xs)
+all-puts folder P [] holds = tt
+all-puts folder P (x ∷ xs) holds = (holds 0 x refl, all-puts folder P xs (λ k y at. holds (suc k) y at))
+
+module _ (is_bundle : ℕ → ReleaseBundle → Type 0) (keys : KeysApart is_bundle) (folder : List ℕ) (bundles : List ReleaseBundle) (each : EachAt is_bundle bundles) where
+  -- the puts of earlier bundles have no name that is tested for a later one
+  pub bundle-apart : (made : ReleaseBundle) → is_bundle (length bundles) made → (n : ℕ) → Apart folder (map (bundle_put folder) bundles) (bundle_tests n made)
+  bundle-apart made is n = (on false, (on true, tt))
+    where
+      on : (side : Bool) → AllByRecursion (λ f. f.name ≢ path folder (side_folder side ++ made.row.key)) (map (bundle_put folder) bundles)
+      on side = all-puts folder (λ f. f.name ≢ path folder (side_folder side ++ made.row.key)) bundles (λ k x at same.
+          keys k (length bundles) x made (each k x at) is (slice_get_within bundles k x at)
+          (side-key x.remote side x.row.key made.row.key (path-same folder (side_folder x.remote ++ x.row.key) (side_folder side ++ made.row.key) same)))
+
+-- and none that is tested for the state
+pub state-beside : (folder : List ℕ) (bundles : List ReleaseBundle) (n : ℕ) (bytes : List ℕ) → Apart folder (map (bundle_put folder) bundles) (state_test n bytes ∷ [])
+state-beside folder bundles n bytes = (
+  all-puts folder (λ f. f.name ≢ path folder (state_file (Some (digest_from bytes)))) bundles (λ k x at same.
+      state-apart (digest_from bytes) x.remote x.row.key (path-same folder (side_folder x.remote ++ x.row.key) (state_file (Some (digest_from bytes))) same)),
+  tt,
+)

@@ -1,14 +1,14 @@
 -- Bundles that are put one after the other.
-use Rattle.std.proofs.Common.{◌≡◌, ℕ, ◌+◌, ◌<◌, ◌≤◌, not, Bool, true, false, cond, List, [], ◌∷◌, ◌++◌, length, map, Some, None, Result, Ok, Err, refl, sym, ap, ap₂, subst, ◌∙◌, inl, inr, arith, append-nil}
+use Rattle.std.proofs.Common.{◌≡◌, ℕ, ◌+◌, ◌≤◌, not, Bool, true, false, cond, List, [], ◌∷◌, ◌++◌, length, map, Some, None, Result, Ok, Err, refl, sym, ap, ap₂, subst, ◌∙◌, inl, inr, arith, append-nil}
 use Rattle.std.proofs.lemmas.Grind.{flat_map-append}
 use Rattle.std.proofs.lemmas.List.{length-map, map-append}
-use Rattle.std.proofs.lemmas.Option.{slice_get_within}
 use Rattle.std.proofs.lemmas.List.Sums.{sum_by-append}
 use Rattle.std.proofs.lemmas.Slice.Eq.{bytes_eq-Decides}
 use Rattle.std.specs.Bool.{MatchBool}
 use Rattle.std.specs.List.{AllByRecursion, Contains, enumerate_from, flat_map, slice_get}
 use Rattle.addr_base.specs.Files.{SameStore, Store, file_at}
 use Rattle.addr_base.specs.declared.files.MemFile.{MemFile}
+use Rattle.addr_images.specs.Sides.{group_side, side_at}
 use Rattle.addr_locate.specs.declared.rows.BundleRow.{BundleRow}
 use Rattle.addr_pack.specs.Placement.{IsPlaced}
 use Rattle.addr_pack.specs.declared.bundles.Plan.{Plan}
@@ -21,14 +21,15 @@ use Rattle.addr_release.specs.Names.{side_path}
 use Rattle.addr_release.specs.Puts.{Test, all_bundle_tests, bundle_put, bundle_tests}
 use Rattle.addr_walks.proofs.Lists.{Contains-here, Contains-later, EachAt-none, EachAt-push}
 use Rattle.addr_build.specs.Release.{count_owed, has_bytes}
-use Rattle.addr_build.specs.within.Building.{AreLaid, PutsOne, StopsIn}
+use Rattle.addr_build.specs.Making.{IsMade, PutsOne}
+use Rattle.addr_build.specs.within.Building.{AreLaid, StopsIn}
 use Rattle.addr_build.specs.Endings.{Ends}
 use Rattle.addr_build.specs.declared.error.PutErr.{PutErr}
 use Rattle.addr_build.specs.declared.error.PutErr.TheVariants.{Taken, Fault, NoMemory}
 use Rattle.addr_build.specs.declared.bundles.PutBundle.{PutBundle}
 use Rattle.addr_build.specs.declared.bundles.PutBundles.{PutBundles}
 use Rattle.addr_build.proofs.EndLemmas.{after-other, ends-then, lays-untaken, renumber-key}
-use Rattle.addr_build.proofs.KeyLemmas.{bundle-apart}
+use Rattle.addr_build.proofs.KeyLemmas.{KeysApart, bundle-apart}
 use Rattle.addr_build.proofs.PutLemmas.{lays-none, lays-then, same-then}
 use Rattle.addr_build.specs.Moments.{LaysSome}
 
@@ -83,22 +84,22 @@ pub still-next : (old cur new : Store) (put n : ℕ) (owed : Bool) → n ≡ con
 still-next old cur new put n true is before one none = absurd (omega (arith, is, none))
 still-next old cur new put n false is before one none = same-then old cur new (before (omega (arith, none))) (one refl)
 
-module _ (p : Project) (plan : Plan) (folder : List ℕ) where
-  pub laid-none : (old : Store) → AreLaid p plan folder old old [] 0
+module _ (is_bundle : ℕ → ReleaseBundle → Type 0) (folder : List ℕ) where
+  pub laid-none : (old : Store) → AreLaid is_bundle folder old old [] 0
   laid-none old = record {
     bundles = [];
-    each = EachAt-none (IsBundleOf p plan);
+    each = EachAt-none is_bundle;
     told = refl;
     lays = lays-none old old (record { files = refl; past = refl });
     free = λ files is. refl;
     count = λ files is. refl;
   }
 
-  module _ (placed : IsPlaced p plan) (old cur new : Store) (rows : List BundleRow) (put : ℕ) (laid : AreLaid p plan folder old cur rows put) where
+  module _ (keys : KeysApart is_bundle) (old cur new : Store) (rows : List BundleRow) (put : ℕ) (laid : AreLaid is_bundle folder old cur rows put) where
     pub many : length rows ≡ length laid.bundles
     many = ap length laid.told ∙ length-map laid.bundles (λ made. made.row)
 
-    module _ (made : ReleaseBundle) (is : IsBundleOf p plan (length laid.bundles) made) where
+    module _ (made : ReleaseBundle) (is : is_bundle (length laid.bundles) made) where
       abbrev xs : List MemFile
       xs = map (bundle_put folder) laid.bundles
 
@@ -115,13 +116,13 @@ module _ (p : Project) (plan : Plan) (folder : List ℕ) where
           subst (λ ps. Ends folder ps 0 (all_bundle_tests (laid.bundles ++ made ∷ [])) old new result) (sym (grown made))
           (subst (λ ts. Ends folder (xs ++ (bundle_put folder made ∷ [])) 0 ts old new result) (sym (tests-push laid.bundles made))
           (ends-then folder xs (bundle_put folder made ∷ []) 0 (length laid.bundles) (all_bundle_tests laid.bundles) (bundle_tests (length laid.bundles) made) old cur new
-          xs-many (bundle-apart p plan placed folder laid.bundles laid.each made is (length laid.bundles)) laid.lays laid.free result
+          xs-many (bundle-apart is_bundle keys folder laid.bundles laid.each made is (length laid.bundles)) laid.lays laid.free result
           (renumber-key folder (bundle_put folder made ∷ []) 0 (length laid.bundles) made.row.key made.file cur new result ends)))
 
       -- what stands under the name of its put stood there before
       own-before : (files mid : List MemFile) → old.files ≡ Some files → cur.files ≡ Some mid → file_at (bundle_put folder made).name mid ≡ file_at (bundle_put folder made).name files
       own-before files mid at now =
-          let apart = bundle-apart p plan placed folder laid.bundles laid.each made is 0 in
+          let apart = bundle-apart is_bundle keys folder laid.bundles laid.each made is 0 in
           laid.lays.all files mid at now (bundle_put folder made).name ∙ after-other (bundle_put folder made).name xs files (on made.remote apart)
         where
           on : (side : Bool) → AllByRecursion (λ test. AllByRecursion (λ f. f.name ≡ path folder test.name → ⊥) xs) (bundle_tests 0 made)
@@ -131,10 +132,10 @@ module _ (p : Project) (plan : Plan) (folder : List ℕ) where
 
       pub laid-more : (one : PutBundle) → one.row ≡ made.row → Ends folder (bundle_put folder made ∷ []) 0 (bundle_tests 0 made) cur new (Ok one)
           → ((files : List MemFile) → cur.files ≡ Some files → MatchBool one.put (file_at (bundle_put folder made).name files ≡ None) (file_at (bundle_put folder made).name files ≡ Some made.file))
-          → AreLaid p plan folder old new (rows ++ one.row ∷ []) (put + cond one.put 1 0)
+          → AreLaid is_bundle folder old new (rows ++ one.row ∷ []) (put + cond one.put 1 0)
       laid-more one row ends owed = record {
         bundles = laid.bundles ++ made ∷ [];
-        each = EachAt-push (IsBundleOf p plan) laid.bundles made laid.each is;
+        each = EachAt-push is_bundle laid.bundles made laid.each is;
         told = ap₂ (λ rs r. rs ++ r ∷ []) laid.told row ∙ sym (map-append (λ (m : ReleaseBundle). m.row) laid.bundles (made ∷ []));
         lays = (joined (Ok one) ends).0;
         free = (joined (Ok one) ends).1;
@@ -146,47 +147,65 @@ module _ (p : Project) (plan : Plan) (folder : List ℕ) where
             ∙ ap (count_owed files) (sym (grown made)));
       }
 
-    pub laid-next : (b : ℕ) (one : PutBundle) → b ≡ length laid.bundles → PutsOne p plan folder b cur new (Ok one) → AreLaid p plan folder old new (rows ++ one.row ∷ []) (put + cond one.put 1 0)
-    laid-next b one number (made, is, row, ends, owed, still) = laid-more made (subst (λ k. IsBundleOf p plan k made) number is) one row ends owed
+    pub laid-next : (b : ℕ) (one : PutBundle) → b ≡ length laid.bundles → PutsOne is_bundle folder b cur new (Ok one) → AreLaid is_bundle folder old new (rows ++ one.row ∷ []) (put + cond one.put 1 0)
+    laid-next b one number (made, is, row, ends, owed, still) = laid-more made (subst (λ k. is_bundle k made) number is) one row ends owed
 
     -- memory was refused behind these
-    pub laid-memory : StopsIn p plan folder old cur NoMemory
+    pub laid-memory : StopsIn is_bundle folder old cur NoMemory
     laid-memory = (laid.bundles, laid.each, lays-untaken folder (map (bundle_put folder) laid.bundles) 0 (all_bundle_tests laid.bundles) old cur laid.lays.some laid.free)
 
-    pub laid-stops : (b : ℕ) (e : PutErr) → b ≡ length laid.bundles → PutsOne p plan folder b cur new (Err e) → StopsIn p plan folder old new e
+    pub laid-stops : (b : ℕ) (e : PutErr) → b ≡ length laid.bundles → PutsOne is_bundle folder b cur new (Err e) → StopsIn is_bundle folder old new e
     laid-stops b e number (inl (made, is, ends)) =
-        let here = subst (λ k. IsBundleOf p plan k made) number is in (
+        let here = subst (λ k. is_bundle k made) number is in (
           laid.bundles ++ made ∷ [],
-          EachAt-push (IsBundleOf p plan) laid.bundles made laid.each here,
+          EachAt-push is_bundle laid.bundles made laid.each here,
           ends-as PutBundle PutBundles folder (map (bundle_put folder) (laid.bundles ++ made ∷ [])) 0 (all_bundle_tests (laid.bundles ++ made ∷ [])) old new e (joined made here {T = PutBundle} (Err e) ends),
         )
     laid-stops b e number (inr (same, memory)) =
-        subst (StopsIn p plan folder old new) (sym memory) (laid.bundles, laid.each, lays-untaken folder (map (bundle_put folder) laid.bundles) 0 (all_bundle_tests laid.bundles) old new stays laid.free)
+        subst (StopsIn is_bundle folder old new) (sym memory) (laid.bundles, laid.each, lays-untaken folder (map (bundle_put folder) laid.bundles) 0 (all_bundle_tests laid.bundles) old new stays laid.free)
       where
         stays : LaysSome (map (bundle_put folder) laid.bundles) old new
         stays = subst (λ ps. LaysSome ps old new) (append-nil (map (bundle_put folder) laid.bundles)) (lays-then (map (bundle_put folder) laid.bundles) [] old cur new laid.lays (lays-none cur new same).some)
 
 -- a bundle's group is one of the project's
-pub group-within : (p : Project) (plan : Plan) → IsPlaced p plan → (b : ℕ) (bundle : PlanBundle) → slice_get plan.bundles b ≡ Some bundle → bundle.group < length p.groups
-group-within p plan placed b bundle at =
+pub grouped : (p : Project) (plan : Plan) → IsPlaced p plan → (b : ℕ) (bundle : PlanBundle) → slice_get plan.bundles b ≡ Some bundle → (group : Group) × (slice_get p.groups bundle.group ≡ Some group)
+grouped p plan placed b bundle at =
     let class = placed.classes b bundle at in
     let named = class.named class.filled.0 class.filled.1 in
-    let within = slice_get_within p.groups named.0.group named.3.1 named.3.3 in
-    let same = named.2 in
-    omega (arith, within, same)
+    (named.3.1, ap (slice_get p.groups) named.2 ∙ named.3.3)
 
 pub made-bundle : (p : Project) (plan : Plan) (b : ℕ) (bundle : PlanBundle) (remote : Bool) (row : BundleRow) (text slice file : List ℕ) → slice_get plan.bundles b ≡ Some bundle
-    → ((group : Group) × (slice_get p.groups bundle.group ≡ Some group) × (remote ≡ group.remote)) → IsFileOf p plan b text → slice ≡ text → IsRowOf p remote bundle slice row → file ≡ text
-    → IsBundleOf p plan b (record { remote = remote; row = row; file = file })
-made-bundle p plan b bundle remote row text slice file at (group, grouped, side) is same told taken = record {
+    → remote ≡ side_at p bundle.group → IsFileOf p plan b text → slice ≡ text → IsRowOf p remote bundle slice row → file ≡ text
+    → IsMade p plan b (record { remote = remote; row = row; file = file })
+made-bundle p plan b bundle remote row text slice file at side is same told taken = record {
   bundle = bundle;
   at = at;
-  group = group;
-  group_at = grouped;
   side = side;
   is = subst (IsFileOf p plan b) (sym taken) is;
-  told = subst (λ f. IsRowOf p group.remote bundle f row) (same ∙ sym taken) (subst (λ r. IsRowOf p r bundle slice row) side told);
+  told = subst (λ f. IsRowOf p remote bundle f row) (same ∙ sym taken) told;
 }
+
+-- a made bundle is one of a full build
+pub built-bundle : (p : Project) (plan : Plan) → IsPlaced p plan → (b : ℕ) (made : ReleaseBundle) → IsMade p plan b made → IsBundleOf p plan b made
+built-bundle p plan placed b made is =
+    let found = grouped p plan placed b is.bundle is.at in
+    let side : made.remote ≡ found.0.remote = is.side ∙ ap group_side found.1 in
+    record {
+      bundle = is.bundle;
+      at = is.at;
+      group = found.0;
+      group_at = found.1;
+      side = side;
+      is = is.is;
+      told = subst (λ r. IsRowOf p r is.bundle made.file made.row) side is.told;
+    }
+
+-- what is put is as well what follows of it
+pub puts-as : (R S : ℕ → ReleaseBundle → Type 0) (folder : List ℕ) (b : ℕ) (old new : Store) (r : Result PutBundle PutErr) → ((made : ReleaseBundle) → R b made → S b made)
+    → PutsOne R folder b old new r → PutsOne S folder b old new r
+puts-as R S folder b old new (Ok one) gives (made, is, row, ends, owed, still) = (made, gives made is, row, ends, owed, still)
+puts-as R S folder b old new (Err e) gives (inl (made, is, ends)) = inl (made, gives made is, ends)
+puts-as R S folder b old new (Err e) gives (inr memory) = inr memory
 
 pub count-few : (put n b : ℕ) (owed : Bool) → put ≤ b → n ≡ cond owed 1 0 → put + n ≤ b + 1
 count-few put n b true few is = omega (arith, few, is)

@@ -8,10 +8,9 @@ use Rattle.addr_base.specs.Files.{SameStore, Store, file_at}
 use Rattle.addr_base.specs.Ids.{digest_of, hex_of}
 use Rattle.addr_base.specs.declared.files.MemFile.{MemFile}
 use Rattle.addr_locate.specs.declared.rows.BundleRow.{BundleRow}
-use Rattle.addr_pack.specs.Placement.{IsPlaced}
 use Rattle.addr_pack.specs.declared.bundles.Plan.{Plan}
 use Rattle.addr_project.specs.Model.{Project}
-use Rattle.addr_release.specs.Built.{IsEntryRow, IsReleaseIn, Release}
+use Rattle.addr_release.specs.Built.{IsBundleOf, IsEntryRow, IsReleaseIn, Release}
 use Rattle.addr_release.specs.Laws.{AreThere}
 use Rattle.addr_release.specs.Names.{catalogue_path, digest_from, hash_path, state_file, state_path}
 use Rattle.addr_release.specs.Puts.{Test, all_bundle_tests, bundle_put, catalogue_put, content_puts, hash_put, puts_of, state_put, tests_of}
@@ -44,7 +43,7 @@ last-tests n state = name_tests n (state_file (Some (digest_from state))) state
 
 module _ (p : Project) (plan : Plan) (folder : List ℕ) where
   -- bundles that stopped
-  pub stopped-release : (old new : Store) (e : PutErr) → StopsIn p plan folder old new e → PutsRelease p plan folder old new (Err e)
+  pub stopped-release : (old new : Store) (e : PutErr) → StopsIn (IsBundleOf p plan) folder old new e → PutsRelease p plan folder old new (Err e)
   stopped-release old new e (bundles, each, ends) = (
     map (bundle_put folder) bundles,
     all_bundle_tests bundles,
@@ -52,7 +51,7 @@ module _ (p : Project) (plan : Plan) (folder : List ℕ) where
     ends-as PutBundles Summary folder (map (bundle_put folder) bundles) 0 (all_bundle_tests bundles) old new e ends,
   )
 
-  module _ (placed : IsPlaced p plan) (old mid new : Store) (rows : List BundleRow) (put : ℕ) (laid : AreLaid p plan folder old mid rows put) where
+  module _ (old mid new : Store) (rows : List BundleRow) (put : ℕ) (laid : AreLaid (IsBundleOf p plan) folder old mid rows put) where
     -- memory was refused behind the bundles
     pub release-memory : PutsRelease p plan folder old mid (Err NoMemory)
     release-memory = (map (bundle_put folder) laid.bundles, all_bundle_tests laid.bundles, inl (laid.bundles, laid.each, refl, refl), lays-untaken folder (map (bundle_put folder) laid.bundles) 0 (all_bundle_tests laid.bundles) old mid laid.lays.some laid.free)
@@ -72,7 +71,7 @@ module _ (p : Project) (plan : Plan) (folder : List ℕ) where
           (subst (λ ts. Ends folder (map (bundle_put folder) laid.bundles ++ last-puts folder r.state_bytes r.catalogue) 0 ts old new result) tests-same
           (ends-then folder (map (bundle_put folder) laid.bundles) (last-puts folder r.state_bytes r.catalogue) 0 (length laid.bundles) (all_bundle_tests laid.bundles) (last-tests (length laid.bundles) r.state_bytes) old mid new
           (let e : 0 + length (map (bundle_put folder) laid.bundles) ≡ length (map (bundle_put folder) laid.bundles) = omega arith in e ∙ length-map laid.bundles (bundle_put folder))
-          (state-beside p plan placed folder laid.bundles laid.each (length laid.bundles) r.state_bytes) laid.lays laid.free result
+          (state-beside folder laid.bundles (length laid.bundles) r.state_bytes) laid.lays laid.free result
           (renumber-name folder (last-puts folder r.state_bytes r.catalogue) 0 (length laid.bundles) (state_file (Some (digest_from r.state_bytes))) r.state_bytes mid new result ends)))
 
     -- the puts of the whole release

@@ -4,14 +4,14 @@ use borrow.Author.Tests.{leb-true, leb-false}
 use Rattle.std.proofs.lemmas.List.{append-nil, length-append, length-map, length-take-le, take-take}
 use Rattle.std.proofs.lemmas.List.Elements.{Contains-push}
 use Rattle.std.specs.List.{Contains}
-use Rattle.addr_base.specs.Files.{SameStore, Store, file_at}
+use Rattle.addr_base.specs.Files.{SameStore, Store}
 use Rattle.addr_base.specs.declared.files.MemFile.{MemFile}
 use Rattle.addr_pack.specs.declared.bundles.Plan.{Plan}
 use Rattle.addr_project.specs.Kept.{IsKept}
 use Rattle.addr_project.specs.Model.{Project}
 use Rattle.addr_project.specs.Reading.{ProjectOf}
-use Rattle.addr_walks.proofs.Lists.{Contains-cases, Contains-none, Contains-slice_get, map-Contains}
-use Rattle.addr_release.specs.Built.{IsReleaseIn, IsReleaseOf, Release, ReleaseBundle, IsBundleOf}
+use Rattle.addr_walks.proofs.Lists.{Contains-cases, Contains-none}
+use Rattle.addr_release.specs.Built.{IsReleaseIn, IsReleaseOf, Release, ReleaseBundle}
 use Rattle.addr_release.specs.Laws.{AreNamed, AreThere, Keeps}
 use Rattle.addr_release.specs.Names.{catalogue_path}
 use Rattle.addr_release.specs.Puts.{AreUntaken, IsAfter, NoneTaken, Test, all_bundle_tests, bundle_put, catalogue_put, content_puts, hash_put, puts_of, state_put, tests_of}
@@ -22,12 +22,10 @@ use Rattle.addr_release.proofs.OwnLemmas.{are-named, made-named}
 use Rattle.addr_release.proofs.PutLemmas.{after-same, take-front, take-within}
 use Rattle.addr_release.proofs.StayLemmas.{FindsFree, content-finds, content-stays, resolves-on, untaken-bundle, untaken-content, untaken-whole}
 use Rattle.addr_release.proofs.TestLemmas.{none-free, none-stays}
-use Rattle.addr_walks.specs.Places.{EachAt}
-use Rattle.addr_build.specs.After.{HasNew, HasOld, NamesDiffer, Serves}
+use Rattle.addr_build.specs.After.{HasOld, Serves}
 use Rattle.addr_build.specs.Moments.{AtEachMoment, IsDuring, LaysSome, Passes}
 use Rattle.addr_build.specs.Outcomes.{IsWithin}
 use Rattle.addr_build.specs.Release.{IsBegunIn}
-use Rattle.addr_build.proofs.PutLemmas.{same-then}
 
 -- ---- moments are as after some first puts
 
@@ -58,7 +56,7 @@ passed-after puts k old n (m ∷ ms) end within (i, from, small, during, rest) =
 
 -- ---- what holds after some first puts of a build
 
-module _ (folder : List ℕ) (old files : List MemFile) (p : Project) (kept : IsKept p) (read : ProjectOf old folder p) (plan : Plan) (within : IsWithin p plan) where
+module _ (folder : List ℕ) (old files : List MemFile) where
   -- puts that find no other bytes, none of them the catalogue's or the hash's, leave the old release
   old-serves : (puts : List MemFile) → ((f : MemFile) → Contains puts f → FindsFree folder old f) → ((f : MemFile) → Contains puts f → f.name ≡ catalogue_path folder → ⊥) → IsAfter puts old files → HasOld folder old files
   old-serves puts free beside after =
@@ -68,23 +66,23 @@ module _ (folder : List ℕ) (old files : List MemFile) (p : Project) (kept : Is
   old-keeps : (puts : List MemFile) → ((f : MemFile) → Contains puts f → FindsFree folder old f) → IsAfter puts old files → Keeps folder old files
   old-keeps puts free after name bytes apart beside there = content-stays folder puts old files free after name bytes there
 
-  -- the first bundles
-  module _ (bundles : List ReleaseBundle) (each : EachAt (IsBundleOf p plan) bundles) (k : ℕ) (untaken : AreUntaken old folder k (all_bundle_tests bundles)) (i : ℕ) (few : i ≤ k)
-      (after : IsAfter (take i (map (bundle_put folder) bundles)) old files) where
+  -- so do the puts of first bundles
+  module _ (bundles : List ReleaseBundle) (are : AreNamed bundles) (k : ℕ) (untaken : AreUntaken old folder k (all_bundle_tests bundles)) (i : ℕ) (few : i ≤ k) (after : IsAfter (take i (map (bundle_put folder) bundles)) old files) where
     free : (f : MemFile) → Contains (take i (map (bundle_put folder) bundles)) f → FindsFree folder old f
     free f here =
         let at = take-at i (map (bundle_put folder) bundles) f here in
         untaken-bundle folder bundles old k at.0 f untaken (let less = at.1 in omega (arith, less, few)) at.2
 
     beside : (f : MemFile) → Contains (take i (map (bundle_put folder) bundles)) f → f.name ≡ catalogue_path folder → ⊥
-    beside f here = (bundles-content folder bundles (made-named p plan bundles within.placed.placed each) f (take-within i (map (bundle_put folder) bundles) f here)).0
+    beside f here = (bundles-content folder bundles are f (take-within i (map (bundle_put folder) bundles) f here)).0
 
-    bundles-serve : Serves folder old files
-    bundles-serve = inl (old-serves (take i (map (bundle_put folder) bundles)) free beside after)
+    pub bundles-serve : HasOld folder old files
+    bundles-serve = old-serves (take i (map (bundle_put folder) bundles)) free beside after
 
-    bundles-keep : Keeps folder old files
+    pub bundles-keep : Keeps folder old files
     bundles-keep = old-keeps (take i (map (bundle_put folder) bundles)) free after
 
+module _ (folder : List ℕ) (old files : List MemFile) (p : Project) (kept : IsKept p) (read : ProjectOf old folder p) (plan : Plan) (within : IsWithin p plan) where
   -- the whole release
   module _ (r : Release) (is : IsReleaseIn p plan r) (k : ℕ) (untaken : AreUntaken old folder k (tests_of r)) (i : ℕ) (few : i ≤ k) (after : IsAfter (take i (puts_of folder r)) old files) where
     whole : IsReleaseOf p r
@@ -107,10 +105,10 @@ module _ (folder : List ℕ) (old files : List MemFile) (p : Project) (kept : Is
           untaken-content folder r named old k untaken at.0 f (let less = at.1 in omega (arith, less, few)) at.2 (content f here)
 
       early-serves : Serves folder old files
-      early-serves = inl (old-serves (take i (puts_of folder r)) early-free (λ f here. (release-content folder r named f (content f here)).0) after)
+      early-serves = inl (old-serves folder old files (take i (puts_of folder r)) early-free (λ f here. (release-content folder r named f (content f here)).0) after)
 
       early-keeps : Keeps folder old files
-      early-keeps = old-keeps (take i (puts_of folder r)) early-free after
+      early-keeps = old-keeps folder old files (take i (puts_of folder r)) early-free after
 
     -- from there on
     module _ (late : length (content_puts folder r) < i) where
@@ -149,7 +147,8 @@ module _ (folder : List ℕ) (old files : List MemFile) (p : Project) (kept : Is
   begun-holds puts tests k (inl (bundles, each, same, told)) untaken (i, few, after) =
       let tested = subst (AreUntaken old folder k) told untaken in
       let at = subst (λ ps. IsAfter (take i ps) old files) same after in
-      (bundles-serve bundles each k tested i few at, bundles-keep bundles each k tested i few at)
+      let are = made-named p plan bundles within.placed.placed each in
+      (inl (bundles-serve folder old files bundles are k tested i few at), bundles-keep folder old files bundles are k tested i few at)
   begun-holds puts tests k (inr (r, is, same, told)) untaken (i, few, after) =
       release-holds r is k (subst (AreUntaken old folder k) told untaken) i few (subst (λ ps. IsAfter (take i ps) old files) same after)
 

@@ -1,6 +1,7 @@
 pub mod After
 pub mod Endings
 pub mod Laws
+pub mod Making
 pub mod Moments
 pub mod Outcomes
 pub mod Putting

@@ -20,7 +20,7 @@ fn side(remote: bool) -> &'static str
 }
 
 /// The name of a bundle's file below the folder.
-fn below(alloc: Global, remote: bool, key: &str) -> Result<Text, NoMemory>
+pub fn side_name(alloc: Global, remote: bool, key: &str) -> Result<Text, NoMemory>
     ensures { IfOk result (λ name. name ≡ side_folder remote ++ key.now) }
 {
     let mut name = String::from_str(alloc, side(remote))?;
@@ -42,7 +42,7 @@ fn is_owed_on<D: Depot>(
     ensures same { SameStore (D.now depot.old) (D.now depot.new) }
     ensures cause { PutRose (D.now depot.old).faults (D.now depot.new).faults result }
 {
-    let name = below(alloc, remote, key)?;
+    let name = side_name(alloc, remote, key)?;
     is_owed(alloc, depot, folder, name.as_str(), bytes)
 }
 
@@ -77,7 +77,7 @@ fn put_below<D: Depot>(
         (D.now depot.old) (D.now depot.new) result }
     ensures cause { FaultRose (D.now depot.old).faults (D.now depot.new).faults result }
 {
-    let name = below(alloc, remote, key)?;
+    let name = side_name(alloc, remote, key)?;
     put_at(alloc, depot, folder, name.as_str(), bytes)?;
     Ok(())
 }

@@ -1,16 +1,18 @@
 // Making and putting the bundles of a release, one after the other, so that one file is in memory at a time.
-ghost use Rattle.std.specs.Prelude.{◌≡◌, ◌<◌, if◌then◌else◌, length, IfOk};
+ghost use Rattle.std.specs.Prelude.{◌≡◌, if◌then◌else◌, length, IfOk};
+ghost use Rattle.addr_layout.specs.KeptBundles.{IsNewAt};
 ghost use Rattle.addr_layout.specs.Layout.{IsLayout};
 ghost use Rattle.addr_pack.specs.Placement.{IsPlaced};
 ghost use Rattle.addr_release.specs.Built.{IsBundleOf};
-ghost use Rattle.addr_build.specs.within.Building.{PutsBundles, PutsOne, release_bundle};
+ghost use Rattle.addr_build.specs.Making.{IsMade, PutsOne};
+ghost use Rattle.addr_build.specs.within.Building.{PutsBundles, release_bundle};
 ghost use Rattle.addr_build.specs.Endings.{PutRose};
 
 use crate::bundle_puts::put_bundle;
 use crate::error::PutErr;
 use addr_base::{Depot, Items, NoMemory};
 use addr_images::{file_of, row_of, side_of};
-use addr_layout::Layout;
+use addr_layout::{Layout, placement_is_shared};
 use addr_locate::BundleRow;
 use addr_pack::Plan;
 use addr_project::Project;
@@ -26,14 +28,14 @@ pub(crate) struct MadeBundle {
 
 /// The row of a bundle, and whether its file was put.
 #[derive(Drop)]
-pub(crate) struct PutBundle {
+pub struct PutBundle {
     pub row: BundleRow,
     pub put: bool,
 }
 
 /// The rows of the bundles, and how many of their files were put.
 #[derive(Drop)]
-pub(crate) struct PutBundles {
+pub struct PutBundles {
     pub rows: Items<BundleRow>,
     pub put: usize,
 }
@@ -45,10 +47,9 @@ fn make_bundle(
     layout: &Layout,
     b: usize,
 ) -> Result<MadeBundle, NoMemory>
-    requires within { b < length plan.now.bundles }
-    requires placed { IsPlaced project.now plan.now }
+    requires new { IsNewAt plan.now b }
     requires laid { IsLayout project.now plan.now layout.now }
-    ensures { IfOk result (λ made. IsBundleOf project.now plan.now b (release_bundle made)) }
+    ensures { IfOk result (λ made. IsMade project.now plan.now b (release_bundle made)) }
 {
     let bundle = &plan.bundles.as_slice()[b];
     let remote = side_of(project, bundle);
@@ -61,7 +62,8 @@ fn make_bundle(
     })
 }
 
-fn put_one<D: Depot>(
+/// Makes a bundle that is written anew, and puts its file, which is let go.
+pub fn put_new<D: Depot>(
     alloc: Global,
     depot: &mut D,
     folder: &str,
@@ -70,10 +72,9 @@ fn put_one<D: Depot>(
     layout: &Layout,
     b: usize,
 ) -> Result<PutBundle, PutErr>
-    requires within { b < length plan.now.bundles }
-    requires placed { IsPlaced project.now plan.now }
+    requires new { IsNewAt plan.now b }
     requires laid { IsLayout project.now plan.now layout.now }
-    ensures puts { PutsOne project.now plan.now folder.now b (D.now depot.old) (D.now depot.new) result }
+    ensures puts { PutsOne (IsMade project.now plan.now) folder.now b (D.now depot.old) (D.now depot.new) result }
     ensures cause { PutRose (D.now depot.old).faults (D.now depot.new).faults result }
 {
     let made = make_bundle(alloc, project, plan, layout, b)?;
@@ -99,13 +100,15 @@ pub(crate) fn put_bundles<D: Depot>(
 ) -> Result<PutBundles, PutErr>
     requires placed { IsPlaced project.now plan.now }
     requires laid { IsLayout project.now plan.now layout.now }
-    ensures puts { PutsBundles project.now plan.now folder.now (D.now depot.old) (D.now depot.new) result }
+    ensures puts { PutsBundles (IsBundleOf project.now plan.now) (length plan.now.bundles) folder.now
+        (D.now depot.old) (D.now depot.new) result }
     ensures cause { PutRose (D.now depot.old).faults (D.now depot.new).faults result }
 {
+    placement_is_shared(project, plan);
     let mut rows = Items::new(alloc);
     let mut put = 0;
     for b in 0..plan.bundles.len() {
-        let one = put_one(alloc, depot, folder, project, plan, layout, b)?;
+        let one = put_new(alloc, depot, folder, project, plan, layout, b)?;
         put += count_of(one.put);
         rows.push(one.row)?;
     }

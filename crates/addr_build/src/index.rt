@@ -9,7 +9,7 @@ ghost use Rattle.addr_images.specs.States.{AreBundleRows};
 ghost use Rattle.addr_build.specs.within.Index.{IndexOf, IsStateText};
 
 use addr_base::{Items, NoMemory, digest};
-use addr_images::{catalogue_of, entries_of, state_of};
+use addr_images::{catalogue_of, state_of};
 use addr_layout::Layout;
 use addr_locate::BundleRow;
 use addr_pack::Plan;
@@ -59,9 +59,8 @@ pub(crate) fn index_of(
         → IndexOf project.now plan.now bundles made.state made.catalogue) }
 {
     let state = state_text(alloc, project, plan, layout, rows.as_slice())?;
-    let assets = entries_of(alloc, project, plan, layout)?;
     let named = digest(&state);
-    let catalogue = catalogue_of(alloc, project, plan, rows, assets, named)?;
+    let catalogue = catalogue_of(alloc, project, plan, layout, rows, named)?;
     Ok(Index {
         state: Items::from_vec(state),
         catalogue: Items::from_vec(catalogue),

@@ -21,8 +21,10 @@ mod testing;
 mod tests;
 
 pub use builder::build;
-pub use bundle_puts::put_bundle;
+pub use bundle_puts::{put_bundle, side_name};
+pub use bundles::{PutBundle, PutBundles, put_new};
 pub use catalogue_puts::{put_catalogue, put_state, put_state_and_catalogue};
 pub use error::{BuildErr, PutErr};
 pub use laws::build_laws;
 pub use release::Summary;
+pub use testing::path_of;

@@ -13,7 +13,7 @@ use addr_base::{Depot, DepotErr, NoMemory, Text};
 use std::alloc::Global;
 
 /// The depot's name of a file below the folder.
-pub(crate) fn path_of(alloc: Global, folder: &str, name: &str) -> Result<Text, NoMemory>
+pub fn path_of(alloc: Global, folder: &str, name: &str) -> Result<Text, NoMemory>
     ensures { IfOk result (λ text. text ≡ path folder.now name.now) }
 {
     let mut text = String::from_str(alloc, folder)?;

@@ -4,3 +4,4 @@ pub mod ResolvedText
 pub mod Resolving
 pub mod CheckText
 pub mod Checking
+pub mod Updating

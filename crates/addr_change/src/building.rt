@@ -122,7 +122,7 @@ fn refused_line(alloc: Global, refusal: &BuildErr) -> Result<String, NoMemory>
     }
 }
 
-fn taken_line(alloc: Global, name: &Text) -> Result<String, NoMemory>
+pub(crate) fn taken_line(alloc: Global, name: &Text) -> Result<String, NoMemory>
     ensures { IfOk result (λ line. string_bytes line ≡ refused_line (NameTaken name.now) ++ 10 ∷ []) }
 {
     let token = token(alloc, name.as_str())?;

@@ -125,7 +125,7 @@ fn refused_line(alloc: Global, refusal: &CheckErr) -> Result<String, NoMemory>
     }
 }
 
-fn missing_line(alloc: Global, name: &Text) -> Result<String, NoMemory>
+pub(crate) fn missing_line(alloc: Global, name: &Text) -> Result<String, NoMemory>
     ensures { IfOk result (λ line. string_bytes line ≡ refused_line (NoRelease name.now) ++ 10 ∷ []) }
 {
     let token = token(alloc, name.as_str())?;
@@ -134,7 +134,7 @@ fn missing_line(alloc: Global, name: &Text) -> Result<String, NoMemory>
 }
 
 /// The line of a file that isn't as the state says.
-fn wrong_line(alloc: Global, file: &Text, why: &NotIntact) -> Result<String, NoMemory>
+pub(crate) fn wrong_line(alloc: Global, file: &Text, why: &NotIntact) -> Result<String, NoMemory>
     ensures { IfOk result (λ line. string_bytes line ≡ refused_line (BadRelease file.now why.now) ++ 10 ∷ []) }
 {
     let token = token(alloc, file.as_str())?;

@@ -5,7 +5,7 @@ use Rattle.addr_base.specs.declared.files.MemFile.{MemFile}
 use Rattle.addr_catalog.specs.declared.catalogue.Catalogue.{Catalogue}
 use Rattle.addr_held.specs.Opening.{HasBadCatalogue, IsWrong, LacksFile}
 use Rattle.addr_moves.specs.Fates.{AreMoves}
-use Rattle.addr_pack.specs.LongNames.{IsFirstLong}
+use Rattle.addr_pack.specs.LongNames.{IsFirstLong, NamesFit}
 use Rattle.addr_pack.specs.Placement.{IsPlaced}
 use Rattle.addr_project.specs.Model.{Project as Contents}
 use Rattle.addr_project.specs.Reading.{ProjectFault, ProjectOf}
@@ -21,9 +21,11 @@ use Rattle.addr_update.specs.declared.model.Move.{Move}
 use Rattle.addr_check.specs.declared.error.CheckErr.{CheckErr}
 use Rattle.addr_check.specs.declared.error.CheckErr.TheVariants.{Project, NoRelease, BadCatalogue, BadRelease, TooLarge, DepotFault, NoMemory}
 
--- what an update of the folder compares: its project with the project's own placement, and the intact release that the folder holds
+-- what an update of the folder compares: its project, no name of whose own placement is too long, with that placement, and the
+-- intact release that the folder holds
 pub record IsCompared (files : List MemFile) (folder : List ℕ) (u : Update) : Type 0 where
   pub project : ProjectOf files folder u.project
+  pub fits : NamesFit u.project
   pub placed : IsPlaced u.project u.now
   pub catalogue : Catalogue
   pub rows : u.rows ≡ catalogue.locator

@@ -1,3 +1,5 @@
 pub mod Checking
+pub mod Comparing
 pub mod FromCauses
+pub mod Laws
 pub mod within

@@ -2,9 +2,9 @@
 //!
 //! Promise: `run` ends as `specs/Outcome.antt` says of its words, the depot's files and the counts of faults; with status 0
 //! it prints exactly the text of its command; `run_live` ends as `specs/Serving.antt` says. `main` calls `run_live` where the
-//! first word is `serve`, `run_build`, `run_check` and `run_resolve` of addr_change where it is `build`, `check` or `resolve`,
-//! `run_analyze` of addr_show where it is `analyze`, else `run`, over the working folder, a listener on the loopback and standard
-//! output. Left out: every command but `simulate`, `rows`, `inspect`, `plan`, `analyze`, `serve`, `build`, `check` and `resolve`.
+//! first word is `serve`, `run_build`, `run_check`, `run_update` and `run_resolve` of addr_change where it is `build`, `check`,
+//! `update` or `resolve`, `run_analyze` and `run_isolate` of addr_show where it is `analyze` or `isolate`, else `run`, over the
+//! working folder, a listener on the loopback and standard output. Left out: every other command.
 //! Start: `specs/Words.antt`, `specs/Outcome.antt`, `src/runner.rt`.
 #![tactic(auto)]
 
@@ -22,10 +22,10 @@ mod status;
 mod tests;
 
 use addr_base::{FolderDepot, NoMemory, OutSink, Sink, Text};
-use addr_change::{run_build, run_check, run_resolve};
+use addr_change::{run_build, run_check, run_resolve, run_update};
 use addr_fields::is_same;
 use addr_net::TcpListen;
-use addr_show::run_analyze;
+use addr_show::{run_analyze, run_isolate};
 use refusal::Refusal;
 use report::report;
 use runner::run;
@@ -51,10 +51,14 @@ fn run_words<K: Sink>(rt: &HostRuntime, words: &[Text], out: &mut K) -> Status {
         Status(run_build(rt.alloc(), words, &mut depot, out))
     } else if is_first(words, b"check") {
         Status(run_check(rt.alloc(), words, &mut depot, out))
+    } else if is_first(words, b"update") {
+        Status(run_update(rt.alloc(), words, &mut depot, out))
     } else if is_first(words, b"resolve") {
         Status(run_resolve(rt.alloc(), words, &mut depot, out))
     } else if is_first(words, b"analyze") {
         Status(run_analyze(rt.alloc(), words, &mut depot, out))
+    } else if is_first(words, b"isolate") {
+        Status(run_isolate(rt.alloc(), words, &mut depot, out))
     } else {
         run(rt.alloc(), words, &mut depot, out)
     }

@@ -8,8 +8,8 @@ use Rattle.addr_base.specs.declared.files.MemFile.{MemFile}
 use Rattle.addr_catalog.specs.Catalogue.{catalogue_read}
 use Rattle.addr_catalog.specs.declared.catalogue.Catalogue.{Catalogue}
 use Rattle.addr_catalog.specs.declared.error.CatErr.{CatErr}
-use Rattle.addr_held.specs.Laws.{HasOneAnswer, IsTold, Seen, seen}
-use Rattle.addr_held.specs.Opening.{OpensRelease, was_of}
+use Rattle.addr_held.specs.Laws.{HasOneAnswer, IsTold, Seen, ShowsRelease, seen}
+use Rattle.addr_held.specs.Opening.{OpensRelease}
 use Rattle.addr_held.specs.declared.error.HeldErr.{HeldErr}
 use Rattle.addr_held.specs.declared.error.HeldErr.TheVariants.{NoRelease, BadCatalogue, BadRelease, DepotFault, NoMemory}
 use Rattle.addr_held.specs.declared.release.Release.{Release}
@@ -36,7 +36,7 @@ get-take (y ∷ ys) (suc n) zero x less at = at
 get-take (y ∷ ys) (suc n) (suc k) x less at = get-take ys n k x (omega (arith, less)) at
 
 -- partners that are determined make one list
-zip-one : {A B : Type 0} (R : A → B → Type 0) → ((x : A) → AtMostOne (R x)) → (xs : List A) → AtMostOne (AllZip R xs)
+pub zip-one : {A B : Type 0} (R : A → B → Type 0) → ((x : A) → AtMostOne (R x)) → (xs : List A) → AtMostOne (AllZip R xs)
 zip-one R each [] [] [] first second = refl
 zip-one R each [] [] (z ∷ zs) first second = absurd second
 zip-one R each [] (y ∷ ys) zs first second = absurd first
@@ -158,19 +158,32 @@ module _ (meant : Meant) (one : OneCab) (never : NeverBoth) (files : List MemFil
       (with-one (λ bytes. file_at (catalogue_path folder) files ≡ Some bytes) OfBytes (λ b d x y. same-some b d (sym x ∙ y)) (λ bytes there. bytes-one bytes))
       (λ x y none some. none-some some.0 (sym none.0 ∙ some.1))
 
-  -- ---- the answers of opening are of these kinds
+  -- ---- what files show is of these kinds
 
-  kind-of : (x : Result Release HeldErr) → OpensRelease files folder x → IsTold x → OfFolder (seen x)
-  kind-of (Ok r) is told = inr (is.held.bytes, is.held.there, inr (r.catalogue, is.held.read, inr (is.held.kept, is.held.kept_there, inr (r.state, (is.held.kept_read, is.held.digest), inr (was_of r, is.intact, refl)))))
-  kind-of (Err (NoRelease name)) (inl (is, none)) told = inl (none, ap (λ n. refused (NoRelease n)) is)
-  kind-of (Err (NoRelease name)) (inr (c, (bytes, there, read), is, none)) told = inr (bytes, there, inr (c, read, inl (none, ap (λ n. refused (NoRelease n)) is)))
-  kind-of (Err (BadCatalogue fault)) (bytes, there, read) told = inr (bytes, there, inl (fault, read, refl))
-  kind-of (Err (BadRelease name why)) (c, (bytes, there, read), (kept, kept_there, inl (is, fault))) told =
+  kind-of : (a : Answer) → ShowsRelease files folder a → OfFolder a
+  kind-of (Ok r) (held, intact) = inr (held.bytes, held.there, inr (r.catalogue, held.read, inr (held.kept, held.kept_there, inr (r.state, (held.kept_read, held.digest), inr (r.was, intact, refl)))))
+  kind-of (Err (NoRelease name)) (inl (is, none)) = inl (none, ap (λ n. refused (NoRelease n)) is)
+  kind-of (Err (NoRelease name)) (inr (c, (bytes, there, read), is, none)) = inr (bytes, there, inr (c, read, inl (none, ap (λ n. refused (NoRelease n)) is)))
+  kind-of (Err (BadCatalogue fault)) (bytes, there, read) = inr (bytes, there, inl (fault, read, refl))
+  kind-of (Err (BadRelease name why)) (c, (bytes, there, read), (kept, kept_there, inl (is, fault))) =
       inr (bytes, there, inr (c, read, inr (kept, kept_there, inl (why, fault, ap (λ n. refused (BadRelease n why)) is))))
-  kind-of (Err (BadRelease name why)) (c, (bytes, there, read), (kept, kept_there, inr (s, kept_read, digest, first))) told =
+  kind-of (Err (BadRelease name why)) (c, (bytes, there, read), (kept, kept_there, inr (s, kept_read, digest, first))) =
       inr (bytes, there, inr (c, read, inr (kept, kept_there, inr (s, (kept_read, digest), inl ((name, why), first, refl)))))
-  kind-of (Err DepotFault) is told = absurd told
-  kind-of (Err NoMemory) is told = absurd told
+  kind-of (Err DepotFault) is = absurd is
+  kind-of (Err NoMemory) is = absurd is
+
+  pub one-shown : AtMostOne (ShowsRelease files folder)
+  one-shown a b first second = folder-one a b (kind-of a first) (kind-of b second)
+
+  -- ---- and so is what opening answers
+
+  shown-by : (x : Result Release HeldErr) → OpensRelease files folder x → IsTold x → ShowsRelease files folder (seen x)
+  shown-by (Ok r) is told = (is.held, is.intact)
+  shown-by (Err (NoRelease name)) is told = is
+  shown-by (Err (BadCatalogue fault)) is told = is
+  shown-by (Err (BadRelease name why)) is told = is
+  shown-by (Err DepotFault) is told = absurd told
+  shown-by (Err NoMemory) is told = absurd told
 
   pub one-answer : HasOneAnswer files folder
-  one-answer x y first second told also = folder-one (seen x) (seen y) (kind-of x first told) (kind-of y second also)
+  one-answer x y first second told also = one-shown (seen x) (seen y) (shown-by x first told) (shown-by y second also)

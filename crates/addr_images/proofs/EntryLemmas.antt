@@ -6,11 +6,10 @@ use Rattle.std.specs.List.{AllZip, Contains, filter, slice_get}
 use Rattle.std.specs.Str.{bytes_eq}
 use Rattle.addr_base.specs.Ids.{hex_of}
 use Rattle.addr_base.specs.declared.ids.BundleNo.{BundleNo}
-use Rattle.addr_layout.specs.Direct.{ClosesNeeds, direct_lists}
+use Rattle.addr_layout.specs.Counts.{AreFor}
+use Rattle.addr_layout.specs.Direct.{Closes}
 use Rattle.addr_layout.specs.Members.{IsShared}
-use Rattle.addr_layout.specs.Needs.{Needs}
 use Rattle.addr_layout.specs.Owners.{AreOwners, Replaces}
-use Rattle.addr_layout.specs.declared.model.Layout.{Layout}
 use Rattle.addr_layout.proofs.OwnerLemmas.{owners-more}
 use Rattle.addr_locate.specs.Names.{with_texts}
 use Rattle.addr_locate.specs.Rows.{texts_once}
@@ -21,14 +20,16 @@ use Rattle.addr_pack.specs.Placement.{InBundle}
 use Rattle.addr_pack.specs.declared.bundles.Plan.{Plan}
 use Rattle.addr_pack.specs.declared.bundles.PlanBundle.{PlanBundle}
 use Rattle.addr_project.proofs.OnceLemmas.{from_map, to_map}
+use Rattle.addr_project.specs.declared.model.Entry.{Entry}
 use Rattle.addr_project.specs.Model.{Project}
 use Rattle.addr_project.specs.Reach.{each_once}
-use Rattle.addr_release.specs.Built.{IsEntryRow}
+use Rattle.addr_release.specs.Built.{IsEntryRowAs}
 use Rattle.addr_walks.specs.Closure.{AreDeps, IsDeps}
 use Rattle.addr_walks.specs.Rows.{AreBelow, Edge}
 use Rattle.addr_walks.proofs.Zips.{zip-more}
-use Rattle.addr_images.specs.within.Deps.{AreDepsOf, IsRowTold}
+use Rattle.addr_images.specs.within.Deps.{IsRowTold}
 use Rattle.addr_images.specs.within.Owners.{AreOwnersIn, entry_rows}
+use Rattle.addr_images.proofs.ToldLemmas.{zip-changes}
 
 -- ---- owners
 
@@ -81,11 +82,9 @@ keys-are ts = texts-from [] ts ∙ sym (each-once ts)
 
 -- ---- dependencies
 
-pub deps-are : (p : Project) (plan : Plan) (layout : Layout) (rows lists : List (List ℕ)) → rows ≡ direct_lists layout → length (direct_lists layout) ≡ length plan.bundles → ClosesNeeds p plan layout → AreDeps rows lists → AreDepsOf p plan lists
-deps-are p plan layout rows lists same many closes are = record {
-  as_many = are.each_row ∙ (ap length same ∙ many);
-  each = λ b deps at. (closes b deps).0 (subst (λ rs. IsDeps (Edge rs) b deps) same (are.deps b deps at));
-}
+-- the dependency lists over rows, one for each bundle
+pub deps-for : (plan : Plan) (direct lists : List (List ℕ)) → length direct ≡ length plan.bundles → AreDeps direct lists → AreFor plan (IsDeps (Edge direct)) lists
+deps-for plan direct lists many are = record { as_many = are.each_row ∙ many; each = are.deps }
 
 -- ---- rows
 
@@ -93,26 +92,43 @@ numbers-back : (ns : List ℕ) → map (λ (d : BundleNo). d.0) (map (λ n. let 
 numbers-back [] = refl
 numbers-back (n ∷ ns) = ap (λ ms. n ∷ ms) (numbers-back ns)
 
-entry-row : (p : Project) (plan : Plan) (lists : List (List ℕ)) (x b : ℕ) (deps : List ℕ) (row : PlainAsset) → AreDepsOf p plan lists → InBundle plan b x → slice_get lists b ≡ Some deps
-    → (told : IsRowTold p x deps row) → IsEntryRow p plan told.entry row
-entry-row p plan lists x b deps row are placed at told = record {
-  asset = told.asset;
-  at = told.asset_at;
-  id = told.id;
-  kind = told.kind;
-  bundle = b;
-  has = (x, placed, (told.entry, told.entry_at, (told.asset, told.asset_at, refl)));
-  deps = subst (IsDeps (Needs p plan) b) (sym (ap (map (λ (d : BundleNo). d.0)) told.numbers ∙ numbers-back deps)) (are.each b deps at);
-  keys = told.keys ∙ keys-are (told.entry.address ∷ hex_of told.asset.guid.0 ∷ told.entry.labels);
-}
+module _ (p : Project) (plan : Plan) (needs : ℕ → ℕ → Type 0) (lists : List (List ℕ)) (are : AreFor plan (IsDeps needs) lists) where
+  entry-row : (x b : ℕ) (deps : List ℕ) (row : PlainAsset) → InBundle plan b x → slice_get lists b ≡ Some deps → (told : IsRowTold p x deps row) → IsEntryRowAs p plan needs told.entry row
+  entry-row x b deps row placed at told = record {
+    asset = told.asset;
+    at = told.asset_at;
+    id = told.id;
+    kind = told.kind;
+    bundle = b;
+    has = (x, placed, (told.entry, told.entry_at, (told.asset, told.asset_at, refl)));
+    deps = subst (IsDeps needs b) (sym (ap (map (λ (d : BundleNo). d.0)) told.numbers ∙ numbers-back deps)) (are.each b deps at);
+    keys = told.keys ∙ keys-are (told.entry.address ∷ hex_of told.asset.guid.0 ∷ told.entry.labels);
+  }
 
-pub rows-more : (p : Project) (plan : Plan) (lists : List (List ℕ)) (x b : ℕ) (deps : List ℕ) (row : PlainAsset) (rows new : List PlainAsset) → AreDepsOf p plan lists → InBundle plan b x → slice_get lists b ≡ Some deps
-    → IsRowTold p x deps row → AllZip (IsEntryRow p plan) (take x p.entries) rows → new ≡ rows ++ row ∷ [] → AllZip (IsEntryRow p plan) (take (x + 1) p.entries) new
-rows-more p plan lists x b deps row rows new are placed at told zipped grown =
-    subst (AllZip (IsEntryRow p plan) (take (x + 1) p.entries)) (sym grown)
-    (zip-more (IsEntryRow p plan) p.entries rows x told.entry row (slice_get_within p.entries x told.entry told.entry_at) (sym (get_or_from_slice_get p.entries x told.entry told.entry told.entry_at)) zipped
-    (entry-row p plan lists x b deps row are placed at told))
+  pub rows-more : (x b : ℕ) (deps : List ℕ) (row : PlainAsset) (rows new : List PlainAsset) → InBundle plan b x → slice_get lists b ≡ Some deps
+      → IsRowTold p x deps row → AllZip (IsEntryRowAs p plan needs) (take x p.entries) rows → new ≡ rows ++ row ∷ [] → AllZip (IsEntryRowAs p plan needs) (take (x + 1) p.entries) new
+  rows-more x b deps row rows new placed at told zipped grown =
+      subst (AllZip (IsEntryRowAs p plan needs) (take (x + 1) p.entries)) (sym grown)
+      (zip-more (IsEntryRowAs p plan needs) p.entries rows x told.entry row (slice_get_within p.entries x told.entry told.entry_at) (sym (get_or_from_slice_get p.entries x told.entry told.entry told.entry_at)) zipped
+      (entry-row x b deps row placed at told))
 
--- a bundle of an entry has a list
-pub list-there : (p : Project) (plan : Plan) (lists : List (List ℕ)) (b x : ℕ) → AreDepsOf p plan lists → InBundle plan b x → b < length lists
-list-there p plan lists b x are (bundle, at, here) = let within = slice_get_within plan.bundles b bundle at in let long = are.as_many in omega (arith, within, long)
+  -- a bundle of an entry has a list
+  pub list-there : (b x : ℕ) → InBundle plan b x → b < length lists
+  list-there b x (bundle, at, here) = let within = slice_get_within plan.bundles b bundle at in let long = are.as_many in omega (arith, within, long)
+
+-- rows of entries over direct lists are rows over what these close
+pub rows-closed : (p : Project) (plan : Plan) (needs : ℕ → ℕ → Type 0) (direct : List (List ℕ)) (es : List Entry) (rows : List PlainAsset) → Closes needs direct
+    → AllZip (IsEntryRowAs p plan (Edge direct)) es rows → AllZip (IsEntryRowAs p plan needs) es rows
+rows-closed p plan needs direct es rows closes zipped = zip-changes (IsEntryRowAs p plan (Edge direct)) (IsEntryRowAs p plan needs) es rows (λ e row here is. over e row is) zipped
+  where
+    over : (e : Entry) (row : PlainAsset) → IsEntryRowAs p plan (Edge direct) e row → IsEntryRowAs p plan needs e row
+    over e row is = record {
+      asset = is.asset;
+      at = is.at;
+      id = is.id;
+      kind = is.kind;
+      bundle = is.bundle;
+      has = is.has;
+      deps = (closes is.bundle (map (λ (d : BundleNo). d.0) row.deps)).0 is.deps;
+      keys = is.keys;
+    }

@@ -14,10 +14,10 @@ use Rattle.hex.proofs.HexLemmas.{length-encode_with}
 use Rattle.hex.specs.Hex.{lower_digits}
 use Rattle.addr_base.specs.Ids.{digest_of, hex_of}
 use Rattle.addr_base.specs.declared.ids.BundleNo.{BundleNo}
+use Rattle.addr_base.specs.declared.ids.Digest.{Digest}
 use Rattle.addr_base.specs.declared.ids.Guid.{Guid}
 use Rattle.addr_catalog.proofs.FewLemmas.{twice-texts_once}
 use Rattle.addr_layout.specs.Members.{HasEntry}
-use Rattle.addr_layout.specs.Needs.{Needs}
 use Rattle.addr_locate.specs.Rows.{has_sound_deps, has_dep, are_bundles, keys_of, no_repeats, no_text_twice, rows_of}
 use Rattle.addr_locate.specs.declared.rows.BundleRow.{BundleRow}
 use Rattle.addr_locate.specs.declared.rows.PlainAsset.{PlainAsset}
@@ -31,11 +31,12 @@ use Rattle.addr_project.specs.declared.model.Entry.{Entry}
 use Rattle.addr_project.specs.Kept.{IsKept}
 use Rattle.addr_project.proofs.OnceLemmas.{from_map, to_map}
 use Rattle.addr_project.specs.Model.{Project}
-use Rattle.addr_release.specs.Built.{IsEntryRow}
+use Rattle.addr_release.specs.Built.{IsEntryRowAs}
 use Rattle.addr_release.specs.Names.{digest_from}
 use Rattle.addr_state.specs.Files.{file_name}
 use Rattle.addr_walks.specs.Closure.{IsDeps}
 use Rattle.addr_walks.specs.Once.{AreOnce}
+use Rattle.addr_walks.specs.Rows.{AreBelow, Edge}
 use Rattle.addr_walks.specs.Walks.{Leads}
 use Rattle.addr_walks.specs.Walks.Leads.{stays, goes}
 use Rattle.addr_walks.proofs.ClosureLemmas.{deps-begin-once}
@@ -61,15 +62,13 @@ cut-name n m t u same long =
     take-append-left (x ∷ xs) ys = ap (λ zs. x ∷ zs) (take-append-left xs ys)
 
 -- files of different bundles have different names
-key-names : (n m f g : List ℕ) → file_name n (digest_from f) ≡ file_name m (digest_from g) → n ≡ m
-key-names n m f g same =
-    let hex-f = length-encode_with lower_digits (digest_of f) in
-    let hex-g = length-encode_with lower_digits (digest_of g) in
-    let sixteen-f = (digests-fit f).sixteen in
-    let sixteen-g = (digests-fit g).sixteen in
-    let tail-f = length-append (hex_of (digest_of f)) (codes ".bundle") in
-    let tail-g = length-append (hex_of (digest_of g)) (codes ".bundle") in
-    cut-name n m (95 ∷ (hex_of (digest_of f) ++ codes ".bundle")) (95 ∷ (hex_of (digest_of g) ++ codes ".bundle")) same (omega (arith, hex-f, hex-g, sixteen-f, sixteen-g, tail-f, tail-g))
+pub key-names : (n m : List ℕ) (d e : Digest) → length d.0 ≡ length e.0 → file_name n d ≡ file_name m e → n ≡ m
+key-names n m d e long same =
+    let hex-d = length-encode_with lower_digits d.0 in
+    let hex-e = length-encode_with lower_digits e.0 in
+    let tail-d = length-append (hex_of d.0) (codes ".bundle") in
+    let tail-e = length-append (hex_of e.0) (codes ".bundle") in
+    cut-name n m (95 ∷ (hex_of d.0 ++ codes ".bundle")) (95 ∷ (hex_of e.0 ++ codes ".bundle")) same (omega (arith, hex-d, hex-e, long, tail-d, tail-e))
 
 there-text : (text : List ℕ) (ts : List (List ℕ)) → list_any (λ u. bytes_eq u text) ts ≡ true → Contains ts text
 there-text text ts passes =
@@ -88,30 +87,21 @@ once-no-twice (t ∷ ts) once = both (list_any (λ u. bytes_eq u t) ts) refl (on
     both false is rest = rest
     both true is rest = (let at = slice_get-Contains ts t (there-text t ts is) in absurd (let clash : zero ≡ suc at.0 = once zero (suc at.0) t refl at.1 in omega arith))
 
--- no two bundles have one key
-pub distinct-keys : (p : Project) (plan : Plan) (rows : List BundleRow) → IsPlaced p plan → AreBundleRows p plan rows → IsTrue (no_text_twice (map (λ b. b.key) rows))
-distinct-keys p plan rows placed are = once-no-twice (map (λ (b : BundleRow). b.key) rows) once
-  where
-    once : AreOnce (map (λ (b : BundleRow). b.key) rows)
-    once i j x here there =
-        let first = from_map (λ (b : BundleRow). b.key) rows i x here in
-        let second = from_map (λ (b : BundleRow). b.key) rows j x there in
-        let one = are.each i first.0 first.1 in
-        let two = are.each j second.0 second.1 in
-        let left = ap (λ (r : BundleRow). r.key) (sym one.2) in
-        let right = ap (λ (r : BundleRow). r.key) (sym two.2) in
-        let names : one.1.bundle.name ≡ two.1.bundle.name = key-names one.1.bundle.name two.1.bundle.name one.0.file two.0.file (sym one.1.told.key ∙ (sym left ∙ (first.2 ∙ (sym second.2 ∙ (right ∙ two.1.told.key))))) in
-        sorted-once nat_list_cmp_total (map (λ (b : PlanBundle). b.name) plan.bundles) placed.by_name i j two.1.bundle.name
-        (to_map (λ (b : PlanBundle). b.name) plan.bundles i one.1.bundle one.1.at ∙ ap Some names) (to_map (λ (b : PlanBundle). b.name) plan.bundles j two.1.bundle two.1.at)
+-- no two bundles of a full build have one key
+pub keys-apart : (p : Project) (plan : Plan) (rows : List BundleRow) → IsPlaced p plan → AreBundleRows p plan rows → AreOnce (map (λ (b : BundleRow). b.key) rows)
+keys-apart p plan rows placed are i j x here there =
+    let first = from_map (λ (b : BundleRow). b.key) rows i x here in
+    let second = from_map (λ (b : BundleRow). b.key) rows j x there in
+    let one = are.each i first.0 first.1 in
+    let two = are.each j second.0 second.1 in
+    let left = ap (λ (r : BundleRow). r.key) (sym one.2) in
+    let right = ap (λ (r : BundleRow). r.key) (sym two.2) in
+    let long : length (digest_of one.0.file) ≡ length (digest_of two.0.file) = (digests-fit one.0.file).sixteen ∙ sym (digests-fit two.0.file).sixteen in
+    let names : one.1.bundle.name ≡ two.1.bundle.name = key-names one.1.bundle.name two.1.bundle.name (digest_from one.0.file) (digest_from two.0.file) long (sym one.1.told.key ∙ (sym left ∙ (first.2 ∙ (sym second.2 ∙ (right ∙ two.1.told.key))))) in
+    sorted-once nat_list_cmp_total (map (λ (b : PlanBundle). b.name) plan.bundles) placed.by_name i j two.1.bundle.name
+    (to_map (λ (b : PlanBundle). b.name) plan.bundles i one.1.bundle one.1.at ∙ ap Some names) (to_map (λ (b : PlanBundle). b.name) plan.bundles j two.1.bundle two.1.at)
 
 -- ---- dependencies
-
-entry-bundle : (p : Project) (plan : Plan) (c : ℕ) (g : Guid) → HasEntry p plan c g → c < length plan.bundles
-entry-bundle p plan c g has = slice_get_within plan.bundles c has.1.0 has.1.1
-
-needed-bundle : (p : Project) (plan : Plan) (b c : ℕ) → b < length plan.bundles → Leads (Needs p plan) b c → c < length plan.bundles
-needed-bundle p plan b c below stays = below
-needed-bundle p plan b c below (goes {x = x} {y = y} before last) = entry-bundle p plan y last.2 last.5
 
 all-below : (count : ℕ) (ds : List BundleNo) → ((n : ℕ) → Contains (map (λ (d : BundleNo). d.0) ds) n → n < count) → are_bundles count ds ≡ true
 all-below count [] below = refl
@@ -139,37 +129,38 @@ once-no-repeat (d ∷ ds) once = both (list_any (λ (c : BundleNo). c.0 == d.0) 
     both false is rest = rest
     both true is rest = (let at = slice_get-Contains (map (λ (e : BundleNo). e.0) ds) d.0 (number-there d.0 ds is) in absurd (let clash : zero ≡ suc at.0 = once zero (suc at.0) d.0 refl at.1 in omega arith))
 
-pub sound-deps : (p : Project) (plan : Plan) (b : ℕ) (g : Guid) (ds : List BundleNo) → HasEntry p plan b g → IsDeps (Needs p plan) b (map (λ d. d.0) ds) → has_sound_deps (length plan.bundles) ds ≡ true
-sound-deps p plan b g ds has deps = rw (filled ds deps.1, all-below (length plan.bundles) ds below, once-no-repeat ds (deps-begin-once (Needs p plan) b (map (λ (d : BundleNo). d.0) ds) deps).1)
-  where
-    filled : (es : List BundleNo) → map (λ (d : BundleNo). d.0) es ≡ b ∷ deps.0 → has_dep es ≡ true
-    filled [] e = absurd (cc e)
-    filled (d ∷ es) e = grind (arith, nat_tests)
-
-    below : (n : ℕ) → Contains (map (λ (d : BundleNo). d.0) ds) n → n < length plan.bundles
-    below n here = by_case (Contains-cases b deps.0 n (subst (λ xs. Contains xs n) deps.1 here))
-      where
-        start : b < length plan.bundles
-        start = entry-bundle p plan b g has
-
-        by_case : (b ≡ n) ⊎ Contains deps.0 n → n < length plan.bundles
-        by_case (inl same) = subst (λ k. k < length plan.bundles) same start
-        by_case (inr rest) = needed-bundle p plan b n start (deps.2.within n rest).1
-
 all-from-zip : {A B : Type 0} (R : A → B → Type 0) (test : B → Bool) → ((x : A) (y : B) → R x y → test y ≡ true) → (xs : List A) (ys : List B) → AllZip R xs ys → list_all test ys ≡ true
 all-from-zip R test each [] [] zipped = refl
 all-from-zip R test each [] (y ∷ ys) zipped = absurd zipped
 all-from-zip R test each (x ∷ xs) [] zipped = absurd zipped
 all-from-zip R test each (x ∷ xs) (y ∷ ys) zipped = rw (each x y zipped.0, all-from-zip R test each xs ys zipped.1)
 
-pub all-sound : (p : Project) (plan : Plan) (assets : List PlainAsset) → AllZip (IsEntryRow p plan) p.entries assets → IsTrue (list_all (λ a. has_sound_deps (length plan.bundles) a.deps) assets)
-all-sound p plan assets zipped = all-from-zip (IsEntryRow p plan) (λ a. has_sound_deps (length plan.bundles) a.deps) (λ e a row. sound-deps p plan row.bundle row.asset.guid a.deps row.has row.deps) p.entries assets zipped
+module _ (p : Project) (plan : Plan) (direct : List (List ℕ)) (many : length direct ≡ length plan.bundles) (below : AreBelow direct (length direct)) where
+  led-below : (b c : ℕ) → b < length plan.bundles → Leads (Edge direct) b c → c < length plan.bundles
+  led-below b c within stays = within
+  led-below b c within (goes {x = x} before last) = (let less = below.each x c last in omega (arith, less, many))
 
-pub all-once : (p : Project) (plan : Plan) (assets : List PlainAsset) → AllZip (IsEntryRow p plan) p.entries assets → IsTrue (list_all (λ a. no_text_twice a.keys) assets)
-all-once p plan assets zipped = all-from-zip (IsEntryRow p plan) (λ a. no_text_twice a.keys)
-    (λ e a row. ap no_text_twice (row.keys ∙ each-once (e.address ∷ hex_of row.asset.guid.0 ∷ e.labels)) ∙ twice-texts_once (e.address ∷ hex_of row.asset.guid.0 ∷ e.labels)) p.entries assets zipped
+  sound-deps : (b : ℕ) (g : Guid) (ds : List BundleNo) → HasEntry p plan b g → IsDeps (Edge direct) b (map (λ d. d.0) ds) → has_sound_deps (length plan.bundles) ds ≡ true
+  sound-deps b g ds has deps = rw (filled ds deps.1, all-below (length plan.bundles) ds inside, once-no-repeat ds (deps-begin-once (Edge direct) b (map (λ (d : BundleNo). d.0) ds) deps).1)
+    where
+      filled : (es : List BundleNo) → map (λ (d : BundleNo). d.0) es ≡ b ∷ deps.0 → has_dep es ≡ true
+      filled [] e = absurd (cc e)
+      filled (d ∷ es) e = grind (arith, nat_tests)
 
--- ---- how many keys
+      inside : (n : ℕ) → Contains (map (λ (d : BundleNo). d.0) ds) n → n < length plan.bundles
+      inside n here = by_case (Contains-cases b deps.0 n (subst (λ xs. Contains xs n) deps.1 here))
+        where
+          start : b < length plan.bundles
+          start = slice_get_within plan.bundles b has.1.0 has.1.1
+
+          by_case : (b ≡ n) ⊎ Contains deps.0 n → n < length plan.bundles
+          by_case (inl same) = subst (λ k. k < length plan.bundles) same start
+          by_case (inr rest) = led-below b n start (deps.2.within n rest).1
+
+  pub all-sound : (assets : List PlainAsset) → AllZip (IsEntryRowAs p plan (Edge direct)) p.entries assets → IsTrue (list_all (λ a. has_sound_deps (length plan.bundles) a.deps) assets)
+  all-sound assets zipped = all-from-zip (IsEntryRowAs p plan (Edge direct)) (λ a. has_sound_deps (length plan.bundles) a.deps) (λ e a row. sound-deps row.bundle row.asset.guid a.deps row.has row.deps) p.entries assets zipped
+
+-- ---- keys of entries
 
 few-sum : (f : PlainAsset → ℕ) (R : Entry → PlainAsset → Type 0) (es : List Entry) (rows : List PlainAsset) → ((e : Entry) (a : PlainAsset) → Contains es e → R e a → f a ≤ 34) → AllZip R es rows → sum_by f rows ≤ 34 * length rows
 few-sum f R [] [] each zipped = omega arith
@@ -181,25 +172,30 @@ few-sum f R (e ∷ es) (a ∷ rows) each zipped =
     let one = sum_by-cons f a rows in
     omega (arith, here, more, one)
 
-pub few-keys : (p : Project) (plan : Plan) (assets : List PlainAsset) → IsKept p → AllZip (IsEntryRow p plan) p.entries assets → length (keys_of assets) < 2 ^ 32
-few-keys p plan assets kept zipped =
-    let all = few_keys_of assets in
-    let flat = length-flat_map (λ (a : PlainAsset). a.keys) assets in
-    let sum = few-sum (λ a. length a.keys) (IsEntryRow p plan) p.entries assets each zipped in
-    let long = zip-long (IsEntryRow p plan) p.entries assets zipped in
-    let few = kept.bounds.entries in
-    omega (arith, all, flat, sum, long, few)
-  where
-    each : (e : Entry) (a : PlainAsset) → Contains p.entries e → IsEntryRow p plan e a → length a.keys ≤ 34
-    each e a among row =
-        let texts = e.address ∷ hex_of row.asset.guid.0 ∷ e.labels in
-        let same = ap length (row.keys ∙ each-once texts) in
-        let less = length-texts_once-le texts in
-        let labels = all-at (λ (d : Entry). length d.labels ≤ 32) p.entries kept.bounds.labels e among in
-        omega (arith, same, less, labels)
+module _ (p : Project) (plan : Plan) (needs : ℕ → ℕ → Type 0) (assets : List PlainAsset) (zipped : AllZip (IsEntryRowAs p plan needs) p.entries assets) where
+  pub all-once : IsTrue (list_all (λ a. no_text_twice a.keys) assets)
+  all-once = all-from-zip (IsEntryRowAs p plan needs) (λ a. no_text_twice a.keys)
+      (λ e a row. ap no_text_twice (row.keys ∙ each-once (e.address ∷ hex_of row.asset.guid.0 ∷ e.labels)) ∙ twice-texts_once (e.address ∷ hex_of row.asset.guid.0 ∷ e.labels)) p.entries assets zipped
 
-pub few-rows : (p : Project) (plan : Plan) (assets : List PlainAsset) → IsKept p → AllZip (IsEntryRow p plan) p.entries assets → length assets < 2 ^ 32
-few-rows p plan assets kept zipped = let long = zip-long (IsEntryRow p plan) p.entries assets zipped in let few = kept.bounds.entries in omega (arith, long, few)
+  pub few-keys : IsKept p → length (keys_of assets) < 2 ^ 32
+  few-keys kept =
+      let all = few_keys_of assets in
+      let flat = length-flat_map (λ (a : PlainAsset). a.keys) assets in
+      let sum = few-sum (λ a. length a.keys) (IsEntryRowAs p plan needs) p.entries assets each zipped in
+      let long = zip-long (IsEntryRowAs p plan needs) p.entries assets zipped in
+      let few = kept.bounds.entries in
+      omega (arith, all, flat, sum, long, few)
+    where
+      each : (e : Entry) (a : PlainAsset) → Contains p.entries e → IsEntryRowAs p plan needs e a → length a.keys ≤ 34
+      each e a among row =
+          let texts = e.address ∷ hex_of row.asset.guid.0 ∷ e.labels in
+          let same = ap length (row.keys ∙ each-once texts) in
+          let less = length-texts_once-le texts in
+          let labels = all-at (λ (d : Entry). length d.labels ≤ 32) p.entries kept.bounds.labels e among in
+          omega (arith, same, less, labels)
+
+  pub few-rows : IsKept p → length assets < 2 ^ 32
+  few-rows kept = let long = zip-long (IsEntryRowAs p plan needs) p.entries assets zipped in let few = kept.bounds.entries in omega (arith, long, few)
 
 pub rows-bundles : (bundles : List BundleRow) (assets : List PlainAsset) → (rows_of bundles assets).bundles ≡ bundles
 unfolding rows_of

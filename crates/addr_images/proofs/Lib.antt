@@ -11,3 +11,4 @@ pub mod StateLemmas
 pub mod SoundLemmas
 pub mod FitLemmas
 pub mod BundleRowLemmas
+pub mod SideLemmas

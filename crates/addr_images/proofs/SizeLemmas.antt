@@ -18,9 +18,8 @@ use Rattle.addr_cab.specs.Spelling.{is_home, leads_to}
 use Rattle.addr_cab.specs.Written.{IsTyped, IsTypedRef, refs_of, cab_table, cab_data, IsHome as IsHomeTyped}
 use Rattle.addr_cab.proofs.OutsideLaws.{are_outside, one_list, leads-flat}
 use Rattle.addr_layout.specs.declared.model.LayBundle.{LayBundle}
-use Rattle.addr_layout.specs.declared.model.Layout.{Layout}
 use Rattle.addr_layout.specs.declared.model.RefHome.TheVariants.{Bundle}
-use Rattle.addr_layout.specs.Layout.{IsBare, IsFull, IsLayout}
+use Rattle.addr_layout.specs.Layout.{IsFull}
 use Rattle.addr_layout.specs.Members.{HasEntry, IsShared}
 use Rattle.addr_layout.specs.Needs.{Needs}
 use Rattle.addr_layout.proofs.PlacedLemmas.{one-bundle}
@@ -200,12 +199,6 @@ file-below p plan b lay kept shared full =
     subst (λ n. n < 2 ^ 29) (ap₂ (λ ds ss. files.file_size (length p.version) (node_sizes (length ds) ss)) (sym names) lengths) (small p plan b lay kept full)
 
 -- ---- a bundle of a layout
-
-pub new-full : (p : Project) (plan : Plan) (layout : Layout) (b : ℕ) (bundle : PlanBundle) (lay : LayBundle) → IsLayout p plan layout → slice_get plan.bundles b ≡ Some bundle → bundle.kept ≡ false → slice_get layout.bundles b ≡ Some lay → IsFull p plan b lay
-new-full p plan layout b bundle lay laid at new there =
-    let is = laid.laid b lay there in
-    let same : is.0 ≡ bundle = same-some is.0 bundle (sym is.1 ∙ at) in
-    subst (λ t. MatchBool t (IsBare lay) (IsFull p plan b lay)) (ap (λ (q : PlanBundle). q.kept) same ∙ new) is.2
 
 pub size-kept : (p : Project) (plan : Plan) (b : ℕ) (bundle : PlanBundle) → slice_get plan.bundles b ≡ Some bundle → bundle.kept ≡ true → IsSizeAt p plan b 0
 size-kept p plan b bundle at is = (bundle, at, subst (λ t. MatchBool t (◌≡◌ {A = ℕ} 0 0) (IsFileSize p plan b bundle 0)) (sym is) refl)

@@ -12,9 +12,10 @@ use Rattle.addr_layout.specs.declared.model.LayBundle.{LayBundle}
 use Rattle.addr_layout.specs.declared.model.Layout.{Layout}
 use Rattle.addr_layout.specs.declared.model.RefHome.{RefHome}
 use Rattle.addr_layout.specs.declared.model.RefHome.TheVariants.{Own as OwnBundle, Bundle}
-use Rattle.addr_layout.specs.Direct.{IsAllNew}
+use Rattle.addr_layout.specs.KeptBundles.{IsNewAt}
 use Rattle.addr_layout.specs.Layout.{AreHomes, IsBare, IsFull, IsLayout}
 use Rattle.addr_layout.specs.Needs.{Home, IsHome}
+use Rattle.addr_layout.proofs.RankLemmas.{same-some}
 use Rattle.addr_pack.specs.declared.bundles.Plan.{Plan}
 use Rattle.addr_pack.specs.declared.bundles.PlanBundle.{PlanBundle}
 use Rattle.addr_project.specs.declared.model.Asset.{Asset}
@@ -137,7 +138,10 @@ sizes-are p plan lay zipped = along lay.members lay.refs zipped
     along (n ∷ ns) [] zipped = absurd zipped
     along (n ∷ ns) (homes ∷ rows) zipped = ap₂ (λ (s : ObjectSize) ss. s ∷ ss) (size-is p plan n homes zipped.0) (along ns rows zipped.1)
 
--- ---- a layout of new bundles
+-- ---- a bundle that isn't kept
 
-pub full-at : (p : Project) (plan : Plan) (layout : Layout) → IsLayout p plan layout → IsAllNew plan → (b : ℕ) (lay : LayBundle) → slice_get layout.bundles b ≡ Some lay → IsFull p plan b lay
-full-at p plan layout laid new b lay at = let is = laid.laid b lay at in subst (λ t. MatchBool t (IsBare lay) (IsFull p plan b lay)) (new b is.0 is.1) is.2
+pub new-full : (p : Project) (plan : Plan) (layout : Layout) → IsLayout p plan layout → (b : ℕ) (lay : LayBundle) → IsNewAt plan b → slice_get layout.bundles b ≡ Some lay → IsFull p plan b lay
+new-full p plan layout laid b lay (bundle, at, new) there =
+    let is = laid.laid b lay there in
+    let same : is.0 ≡ bundle = same-some is.0 bundle (sym is.1 ∙ at) in
+    subst (λ t. MatchBool t (IsBare lay) (IsFull p plan b lay)) (ap (λ (q : PlanBundle). q.kept) same ∙ new) is.2

@@ -1,6 +1,7 @@
--- The limits of a project's own placement, in the order in which they are tested, each with the whole count.
-use Rattle.std.specs.Prelude.{ℕ, ◌≤◌, ◌<◌}
-use Rattle.addr_layout.specs.Counts.{IsDepsCount, IsMembersCount}
+-- The limits of a project's own placement, and of that of an update, in the order in which they are tested, each with the whole
+-- count.
+use Rattle.std.specs.Prelude.{ℕ, ◌≡◌, ◌≤◌, ◌<◌}
+use Rattle.addr_layout.specs.Counts.{IsDepsCount, IsDepsCountOver, IsMembersCount}
 use Rattle.addr_pack.specs.LongNames.{IsFirstLong, NamesFit}
 use Rattle.addr_pack.specs.Placement.{IsPlaced}
 use Rattle.addr_pack.specs.declared.bundles.Plan.{Plan}
@@ -18,6 +19,13 @@ Fits counts which = (n : ℕ) × counts n × (n ≤ most which)
 
 abbrev pub Passes : (ℕ → Type 0) → Limit → ℕ → Type 0
 Passes counts which n = counts n × (most which < n)
+
+-- why a count isn't taken: it passes its limit
+abbrev pub RefusesCount : (ℕ → Type 0) → Limit → LimitErr → Type 0
+RefusesCount counts which (TooLarge other n) = (other ≡ which) × Passes counts which n
+RefusesCount counts which NoMemory = Unit {0}
+
+-- ---- a full build
 
 -- a placement of the project that keeps to the limits of names, members and dependencies
 pub record IsPlanWithin (p : Project) (plan : Plan) : Type 0 where
@@ -46,3 +54,24 @@ BytesPass p plan _ n = ⊥
 abbrev pub RefusesLayout : Project → Plan → LimitErr → Type 0
 RefusesLayout p plan (TooLarge which n) = BytesPass p plan which n
 RefusesLayout p plan NoMemory = Unit {0}
+
+-- ---- an update
+
+-- an update's release in its placement keeps to the limits of members, of dependencies over what bundles need, and of bytes
+pub record UpdateFits (p : Project) (plan : Plan) (needs : ℕ → ℕ → Type 0) : Type 0 where
+  pub members : Fits (IsMembersCount p plan) limit.Members
+  pub deps : Fits (IsDepsCountOver needs plan) limit.Deps
+  pub bytes : Fits (IsBytesCount p plan) limit.BundleBytes
+
+-- the first of these limits that it passes
+abbrev pub UpdatePasses : Project → Plan → (ℕ → ℕ → Type 0) → Limit → ℕ → Type 0
+UpdatePasses p plan needs limit.Members n = Passes (IsMembersCount p plan) limit.Members n
+UpdatePasses p plan needs limit.Deps n = Fits (IsMembersCount p plan) limit.Members × Passes (IsDepsCountOver needs plan) limit.Deps n
+UpdatePasses p plan needs limit.BundleBytes n = Fits (IsMembersCount p plan) limit.Members
+    × Fits (IsDepsCountOver needs plan) limit.Deps × Passes (IsBytesCount p plan) limit.BundleBytes n
+UpdatePasses p plan needs _ n = ⊥
+
+-- why an update's files aren't made
+abbrev pub RefusesUpdate : Project → Plan → (ℕ → ℕ → Type 0) → LimitErr → Type 0
+RefusesUpdate p plan needs (TooLarge which n) = UpdatePasses p plan needs which n
+RefusesUpdate p plan needs NoMemory = Unit {0}

@@ -1,14 +1,14 @@
 // The file of a bundle: its objects as a table and data, in a bundle file of two nodes.
 ghost use Rattle.std.specs.Prelude.{◌<◌, ◌^◌, length, IfOk};
+ghost use Rattle.addr_layout.specs.KeptBundles.{IsNewAt};
 ghost use Rattle.addr_layout.specs.Layout.{IsLayout};
-ghost use Rattle.addr_pack.specs.Placement.{IsPlaced};
 ghost use Rattle.addr_release.specs.Built.{IsFileOf};
 ghost use Rattle.hex.specs.Hex.{IsBytes};
 
 use crate::images::objects_told;
 use addr_base::NoMemory;
 use addr_cab::{internal_name, write_cab_file};
-use addr_layout::{Layout, placement_is_shared, references_are_led};
+use addr_layout::{Layout, references_are_led};
 use addr_pack::Plan;
 use addr_project::Project;
 use std::alloc::Global;
@@ -21,7 +21,7 @@ fn are_bytes(file: &[u8])
     let _len = file.len();
 }
 
-/// The file of a bundle. Copies each member's bytes once, and once more into the file; a reference that leads to another
+/// The file of a bundle that is written anew. Copies each member's bytes once, and once more into the file; a reference that leads to another
 /// bundle costs a digest of that bundle's name. The limits of a project keep the file below 2^29 bytes.
 pub fn file_of(
     alloc: Global,
@@ -30,13 +30,11 @@ pub fn file_of(
     layout: &Layout,
     b: usize,
 ) -> Result<Vec<u8>, NoMemory>
-    requires within { b < length plan.now.bundles }
-    requires placed { IsPlaced project.now plan.now }
+    requires new { IsNewAt plan.now b }
     requires laid { IsLayout project.now plan.now layout.now }
     ensures { IfOk result (λ file. IsFileOf project.now plan.now b file.items) }
 {
     project.kept();
-    placement_is_shared(project, plan);
     references_are_led(project, plan, layout);
     let bundle = &plan.bundles.as_slice()[b];
     let lay = &layout.bundles.as_slice()[b];

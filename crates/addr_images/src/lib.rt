@@ -9,6 +9,7 @@
 #![tactic(auto)]
 
 mod catalogues;
+mod deps;
 mod entries;
 mod files;
 mod fixed;
@@ -25,10 +26,10 @@ mod states;
 #[cfg(test)]
 mod tests;
 
-pub use catalogues::catalogue_of;
-pub use entries::entries_of;
+pub use catalogues::{catalogue_of, catalogue_over};
+pub use entries::entries_over;
 pub use files::file_of;
-pub use limits::{LimitErr, layout_within, plan_within};
+pub use limits::{LimitErr, layout_within, members_within, plan_within, update_within};
 pub use rows::{row_of, side_of};
 pub use sizes::bundle_bytes;
 pub use states::state_of;

@@ -1,9 +1,8 @@
 // The catalogue's row of a bundle, after its file.
-ghost use Rattle.std.specs.Prelude.{◌≡◌, ◌<◌, length, Some, IfOk};
-ghost use Rattle.std.specs.List.{slice_get};
+ghost use Rattle.std.specs.Prelude.{◌≡◌, IfOk};
 ghost use Rattle.addr_base.specs.Ids.{hex_of};
-ghost use Rattle.addr_project.specs.declared.model.Group.{Group};
 ghost use Rattle.addr_release.specs.Built.{IsRowOf, fetch_id};
+ghost use Rattle.addr_images.specs.Sides.{side_at};
 
 use addr_base::{Digest, NoMemory, Text, digest};
 use addr_cab::internal_name;
@@ -13,13 +12,15 @@ use addr_project::Project;
 use addr_state::file_name;
 use std::alloc::Global;
 
-/// Whether a bundle is built into the folder of remote bundles.
+/// Whether a bundle is built into the folder of remote bundles: that of the moved entries of an update is, whose group's number
+/// is the number of groups.
 pub fn side_of(project: &Project, bundle: &PlanBundle) -> bool
-    requires { bundle.now.group < length project.now.groups }
-    ensures { (group : Group) × (slice_get project.now.groups bundle.now.group ≡ Some group)
-        × (result ≡ group.remote) }
+    ensures { result ≡ side_at project.now bundle.now.group }
 {
-    project.groups()[bundle.group as usize].remote
+    match project.groups().get(bundle.group as usize) {
+        Some(group) => group.remote,
+        None => true,
+    }
 }
 
 /// The text of a side, a slash, and the name of a file.

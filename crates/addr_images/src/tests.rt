@@ -6,12 +6,12 @@ ghost use Rattle.addr_pack.specs.Placement.{IsPlaced};
 ghost use Rattle.addr_images.specs.States.{AreBundleRows, IsBundleRow};
 
 use crate::{
-    bundle_bytes, catalogue_of, entries_of, file_of, layout_within, plan_within, row_of, side_of,
-    state_of,
+    bundle_bytes, catalogue_of, file_of, layout_within, members_within, plan_within, row_of,
+    side_of, state_of, update_within,
 };
 use addr_base::{Depot, Items, MemDepot, NoMemory, digest};
 use addr_catalog::read_catalog;
-use addr_layout::{Layout, placement_is_shared};
+use addr_layout::{Layout, direct_closes, placement_is_shared};
 use addr_locate::BundleRow;
 use addr_pack::{Plan, name_laws};
 use addr_project::Project;
@@ -65,8 +65,9 @@ fn row_at(
     ensures { IfOk result (IsBundleRow project.now plan.now b) }
 {
     name_laws(project);
-    let file = file_of(alloc, project, plan, layout, b)?;
+    placement_is_shared(project, plan);
     let bundle = &plan.bundles.as_slice()[b];
+    let file = file_of(alloc, project, plan, layout, b)?;
     let remote = side_of(project, bundle);
     let row = row_of(alloc, project, bundle, remote, &file)?;
     Ok(row)
@@ -90,9 +91,31 @@ fn rows_of(
     Ok(rows)
 }
 
-/// What is made for a placement: the sizes of all files together and of the two bundles, the state, and the catalogue.
+/// Whether the placement would do for an update too.
+fn is_within(
+    alloc: Global,
+    project: &Project,
+    plan: &Plan,
+    layout: &Layout,
+) -> Result<bool, NoMemory>
+    requires placed { IsPlaced project.now plan.now }
+    requires laid { IsLayout project.now plan.now layout.now }
+{
+    placement_is_shared(project, plan);
+    direct_closes(project, plan, layout);
+    let direct = layout.direct(alloc)?;
+    let Ok(()) = members_within(alloc, project, plan) else {
+        return Ok(false);
+    };
+    let within = update_within(alloc, project, plan, layout, direct.as_slice());
+    Ok(within.is_ok())
+}
+
+/// What is made for a placement: the sizes of all files together and of the two bundles, the state, and the catalogue; and
+/// whether it keeps to the limits of an update.
 #[derive(Drop)]
 struct Made {
+    within: bool,
     bytes: u64,
     rows: Items<BundleRow>,
     state: Vec<u8>,
@@ -127,8 +150,7 @@ fn catalogue_bytes(
     requires laid { IsLayout project.now plan.now layout.now }
 {
     let rows = rows_of(alloc, project, plan, layout)?;
-    let assets = entries_of(alloc, project, plan, layout)?;
-    let bytes = catalogue_of(alloc, project, plan, rows, assets, digest(state))?;
+    let bytes = catalogue_of(alloc, project, plan, layout, rows, digest(state))?;
     Ok(bytes)
 }
 
@@ -138,11 +160,13 @@ fn make_in(alloc: Global, project: &Project, plan: &Plan, layout: &Layout) -> Re
     requires laid { IsLayout project.now plan.now layout.now }
 {
     placement_is_shared(project, plan);
+    let within = is_within(alloc, project, plan, layout)?;
     let bytes = bundle_bytes(alloc, project, plan, layout)?;
     let rows = rows_of(alloc, project, plan, layout)?;
     let state = state_bytes(alloc, project, plan, layout, rows.as_slice())?;
     let catalogue = catalogue_bytes(alloc, project, plan, layout, &state)?;
     Ok(Made {
+        within,
         bytes,
         rows,
         state,
@@ -164,6 +188,7 @@ fn make(alloc: Global) -> Result<Made, NoMemory> {
 #[test]
 fn two_bundles_that_one_key_needs(rt: HostRuntime) -> Result<(), Fail> {
     let made = make(rt.alloc())?;
+    assert!(rt; made.within);
     assert_eq!(rt; made.bytes, 776);
     let sizes = match made.rows.as_slice() {
         [level, red] => [level.size, red.size],

@@ -1,6 +1,7 @@
 -- Kept entries by the bundles of the state: one more entry, one more bundle, and what they are of an update.
-use Rattle.std.proofs.Common.{◌≡◌, ◌≢◌, ◌<◌, ◌≤◌, ◌+◌, ◌⊎◌, inl, inr, ℕ, zero, suc, true, List, [], ◌∷◌, ◌++◌, length, slice_set, Option, Some, None, refl, sym, ap, subst, ◌∙◌, arith}
+use Rattle.std.proofs.Common.{◌≡◌, ◌≢◌, ◌<◌, ◌≤◌, ◌+◌, ◌⊎◌, inl, inr, ℕ, zero, suc, true, List, [], ◌∷◌, ◌++◌, length, map, slice_set, Option, Some, None, refl, sym, ap, subst, ◌∙◌, arith}
 use Rattle.std.proofs.lemmas.Bool.{cases_eq, cases_order}
+use Rattle.std.proofs.lemmas.List.{map-append}
 use Rattle.std.proofs.lemmas.List.Elements.{Contains-append_left, Contains-push, Contains-push_cases}
 use Rattle.std.proofs.lemmas.Option.{slice_get_within}
 use Rattle.std.specs.List.{AllZip, Contains, slice_get}
@@ -19,7 +20,10 @@ use Rattle.addr_update.specs.declared.model.KeptBundle.{KeptBundle}
 use Rattle.addr_update.specs.declared.model.Why.{Why}
 use Rattle.addr_update.specs.Moved.{IsKeptNo, Stays, Update}
 use Rattle.addr_update.specs.Placement.{IsKeptAs, IsSplit}
-use Rattle.addr_walks.proofs.Lists.{Contains-none, Contains-slice_get, EachAt-none, IsListOf-same, slice_get-push_cases}
+use Rattle.addr_pack.proofs.ListLemmas.{mapped_at}
+use Rattle.addr_release.proofs.NameLemmas.{once-push}
+use Rattle.addr_walks.specs.Once.{AreOnce}
+use Rattle.addr_walks.proofs.Lists.{map-Contains, Contains-none, Contains-slice_get, EachAt-none, IsListOf-same, slice_get-push_cases}
 use Rattle.addr_walks.proofs.Zips.{zip-left}
 use Rattle.addr_walks.specs.Places.{EachAt}
 use Rattle.addr_walks.specs.Walks.{IsListOf}
@@ -116,14 +120,39 @@ module _ (fates : List Fate) where
 
   module _ (s : State) (p : Project) where
     pub kept-none : KeptUpTo s p fates 0 []
-    kept-none = record { within = λ b here. absurd (Contains-none b here); all = λ m old less at here named. absurd (omega (arith, less)) }
+    kept-none = record {
+      within = λ b here. absurd (Contains-none b here);
+      all = λ m old less at here named. absurd (omega (arith, less));
+      below = λ b here. absurd (Contains-none b here);
+      once = λ state i j x at there. absurd (omega (arith, slice_get_within [] i x at));
+    }
 
     row-list : (m : ℕ) (row : List ℕ) → IsListOf nat_cmp (KeptBelow fates (length fates) m) row → IsListOf nat_cmp (λ x. slice_get fates x ≡ Some (Kept m)) row
     row-list m row list = IsListOf-same (KeptBelow fates (length fates) m) (λ x. slice_get fates x ≡ Some (Kept m)) (λ x is. is.1) (λ x held. (slice_get_within fates x (Kept m) held, held)) row list
 
+    -- a kept bundle has the name of one of the first bundles of the state
+    abbrev IsNamedBelow : ℕ → KeptBundle → Type 0
+    IsNamedBelow k b = (m : ℕ) × (old : StateBundle) × (m < k) × (slice_get s.bundles m ≡ Some old) × (b.name ≡ old.name)
+
+    later : (k : ℕ) (kept : List KeptBundle) → ((b : KeptBundle) → Contains kept b → IsNamedBelow k b) → (b : KeptBundle) → Contains kept b → IsNamedBelow (k + 1) b
+    later k kept below b here = let (m, old, less, at, same) = below b here in (m, old, omega (arith, less), at, same)
+
+    apart-name : (k : ℕ) (old : StateBundle) → slice_get s.bundles k ≡ Some old → (kept : List KeptBundle) → ((b : KeptBundle) → Contains kept b → IsNamedBelow k b) → AreOnce (map (λ (b : StateBundle). b.name) s.bundles)
+        → Contains (map (λ (b : KeptBundle). b.name) kept) old.name → ⊥
+    apart-name k old at kept below state here =
+        let from = map-Contains (λ (b : KeptBundle). b.name) kept old.name here in
+        let (m, other, less, there, same) = below from.0 from.1 in
+        let one : m ≡ k = state m k old.name (mapped_at (λ (b : StateBundle). b.name) s.bundles m other there ∙ ap Some (sym same ∙ from.2)) (mapped_at (λ (b : StateBundle). b.name) s.bundles k old at) in
+        absurd (omega (arith, less, one))
+
     pub kept-more : (k : ℕ) (old : StateBundle) (group : Option ℕ) (row : List ℕ) (kept : List KeptBundle) → slice_get s.bundles k ≡ Some old → StaysAs s.fixed p old group
         → IsListOf nat_cmp (KeptBelow fates (length fates) k) row → KeptUpTo s p fates k kept → KeptUpTo s p fates (k + 1) (with_kept old group row kept)
-    kept-more k old None row kept at never list up = record { within = up.within; all = λ m b less there here named. by_order m b less there here named (cases_order m k) }
+    kept-more k old None row kept at never list up = record {
+      within = up.within;
+      all = λ m b less there here named. by_order m b less there here named (cases_order m k);
+      below = λ b here. later k kept up.below b here;
+      once = up.once;
+    }
       where
         by_order : (m : ℕ) (b : StateBundle) → m < k + 1 → slice_get s.bundles m ≡ Some b → Contains s.fixed b.group → IsFixedName p b.group → (m ≡ k) ⊎ ((m < k) ⊎ (k < m))
             → (c : KeptBundle) × Contains kept c × IsKeptFrom s p fates c m b
@@ -135,6 +164,8 @@ module _ (fates : List Fate) where
     kept-more k old (Some n) row kept at (among, group) list up = record {
       within = λ b here. by_side b (Contains-push_cases kept new b here);
       all = λ m b less there here named. by_order m b less there here named (cases_order m k);
+      below = λ b here. at_end b (Contains-push_cases kept new b here);
+      once = λ state. subst AreOnce (sym (map-append name kept (new ∷ []))) (once-push (map name kept) old.name (up.once state) (apart-name k old at kept up.below state));
     }
       where
         new : KeptBundle
@@ -142,6 +173,13 @@ module _ (fates : List Fate) where
 
         own : IsKeptFrom s p fates new k old
         own = record { at = at; named = among; name = refl; group = group.0; group_at = group.1; fixed = group.2; group_name = group.3; entries = row-list k row list }
+
+        name : KeptBundle → List ℕ
+        name b = b.name
+
+        at_end : (b : KeptBundle) → Contains kept b ⊎ (new ≡ b) → IsNamedBelow (k + 1) b
+        at_end b (inl here) = later k kept up.below b here
+        at_end b (inr same) = (k, old, omega arith, at, ap name (sym same))
 
         by_side : (b : KeptBundle) → Contains kept b ⊎ (new ≡ b) → (m : ℕ) × (x : StateBundle) × IsKeptFrom s p fates b m x
         by_side b (inl here) = up.within b here
@@ -158,7 +196,12 @@ module _ (fates : List Fate) where
         by_order m b less there here named (inr (inr after)) = absurd (omega (arith, less, after))
 
     pub kept-all : (k : ℕ) (kept : List KeptBundle) → length s.bundles ≤ k → KeptUpTo s p fates k kept → KeptUpTo s p fates (length s.bundles) kept
-    kept-all k kept all up = record { within = up.within; all = λ m old less at here named. up.all m old (omega (arith, less, all)) at here named }
+    kept-all k kept all up = record {
+      within = up.within;
+      all = λ m old less at here named. up.all m old (omega (arith, less, all)) at here named;
+      below = λ b here. (let (m, old, less, at, same) = up.below b here in (m, old, slice_get_within s.bundles m old at, at, same));
+      once = up.once;
+    }
 
     -- ---- of an update
 

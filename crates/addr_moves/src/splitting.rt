@@ -1,5 +1,5 @@
 // What is kept and what moves: each bundle of the state that stays with its kept entries, and the numbers of all moved ones.
-ghost use Rattle.std.specs.Prelude.{◌≡◌, ◌<◌, ◌^◌, length, vec_len, IfOk, OnOk, List};
+ghost use Rattle.std.specs.Prelude.{◌≡◌, ◌<◌, ◌^◌, length, map, vec_len, IfOk, OnOk, List};
 ghost use Rattle.std.specs.List.{AllZip};
 ghost use Rattle.addr_locate.specs.Rows.{Rows};
 ghost use Rattle.addr_pack.specs.declared.bundles.Plan.{Plan as PlanOf};
@@ -8,6 +8,7 @@ ghost use Rattle.addr_moves.specs.Fates.{AreFates, comparing};
 ghost use Rattle.addr_moves.specs.within.Split.{AreKeptRows, KeptUpTo, PutsKept, with_kept};
 ghost use Rattle.addr_moves.specs.Stays.{StaysAs};
 ghost use Rattle.addr_update.specs.Placement.{IsSplit};
+ghost use Rattle.addr_walks.specs.Once.{AreOnce};
 
 use crate::fate::Fate;
 use crate::stays::stays_of;
@@ -115,9 +116,12 @@ pub fn split_of(
     fates: &[Fate],
 ) -> Result<Split, NoMemory>
     requires many { length fates.now ≡ length project.now.entries }
-    ensures { IfOk result (λ split. (was : List Opened) (r : Rows) (now : PlanOf)
+    ensures split { IfOk result (λ split. (was : List Opened) (r : Rows) (now : PlanOf)
         → AreFates (comparing state.now was r project.now now) fates.now
         → IsSplit (comparing state.now was r project.now now) split.kept split.moved) }
+    // Where no two bundles of the state have one name, no bundle is kept twice.
+    ensures once { IfOk result (λ split. AreOnce (map (λ b. b.name) state.now.bundles)
+        → AreOnce (map (λ b. b.name) split.kept)) }
 {
     project.kept();
     let kept = kept_of(alloc, project, state, fates)?;

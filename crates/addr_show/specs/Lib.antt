@@ -2,3 +2,4 @@ pub mod FromCauses
 pub mod Printing
 pub mod AnalyzeText
 pub mod Analyzing
+pub mod Isolating

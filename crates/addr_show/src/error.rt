@@ -1,17 +1,18 @@
-// Why a folder isn't analyzed.
+// Why a folder isn't analyzed or isolated.
 ghost use Rattle.std.specs.Prelude.{◌≡◌};
 ghost use Rattle.addr_show.specs.declared.error.AnalyzeErr.TheVariants as errors;
 
 use addr_base::NoMemory;
 use addr_images::LimitErr;
+use addr_isolate::IsolateErr;
 use addr_project::{Limit, ProjectErr};
 
-/// Why a folder isn't analyzed.
+/// Why a folder isn't analyzed or isolated.
 #[derive(Debug, Drop)]
 pub enum AnalyzeErr {
     /// The folder is no project, for this fault; it isn't want of memory and no fault of the depot.
     Project(ProjectErr),
-    /// The first limit of a plan that the project passes, and the whole count.
+    /// The first limit of a plan that the project passes, or `groups` or `entries` that it would pass isolated, and the whole count.
     TooLarge { limit: Limit, count: u64 },
     /// The depot failed; its count of faults rose.
     DepotFault,
@@ -49,6 +50,22 @@ impl From<LimitErr> for AnalyzeErr {
         match cause {
             LimitErr::TooLarge { limit, count } => AnalyzeErr::TooLarge { limit, count },
             LimitErr::NoMemory => AnalyzeErr::NoMemory,
+        }
+    }
+}
+
+impl From<IsolateErr> for AnalyzeErr {
+    ghost use Rattle.addr_show.specs.FromCauses.{of_isolation};
+
+    ghost from_gives = { λ cause e. e ≡ of_isolation cause };
+
+    /// A project file that changed between its two reads is no project's. No told file does.
+    fn from(cause: IsolateErr) -> Self {
+        match cause {
+            IsolateErr::TooLarge { limit, count } => AnalyzeErr::TooLarge { limit, count },
+            IsolateErr::Broken => AnalyzeErr::Project(ProjectErr::NoProject),
+            IsolateErr::DepotFault => AnalyzeErr::DepotFault,
+            IsolateErr::NoMemory => AnalyzeErr::NoMemory,
         }
     }
 }

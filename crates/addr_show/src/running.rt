@@ -60,7 +60,7 @@ fn print_end<K: Sink>(alloc: Global, ended: &Result<Text, AnalyzeErr>, out: &mut
 }
 
 /// Prints the line of a refusal.
-fn print_refusal<K: Sink>(alloc: Global, refusal: &AnalyzeErr, out: &mut K) -> u8
+pub(crate) fn print_refusal<K: Sink>(alloc: Global, refusal: &AnalyzeErr, out: &mut K) -> u8
     ensures prints { PrintsEnd (Err refusal.now) result (K.now out.old) (K.now out.new) }
     ensures once { (K.now out.new).puts ≡ one_more (K.now out.old).puts }
 {

@@ -1,5 +1,5 @@
 -- What was shipped stays, over any list of edits, builds and updates.
-use Rattle.std.proofs.Common.{◌≡◌, ◌≢◌, ◌↔◌, ◌⊎◌, inl, inr, ℕ, codes, get_or, length, Bool, true, false, List, [], ◌∷◌, Option, None, Some, Ok, refl, sym, ap, ap₂, subst, ◌∙◌, arith}
+use Rattle.std.proofs.Common.{◌≡◌, ◌≢◌, ◌<◌, ◌↔◌, ◌⊎◌, inl, inr, ℕ, codes, get_or, length, take, Bool, true, false, List, [], ◌∷◌, Option, None, Some, Ok, refl, sym, ap, ap₂, subst, ◌∙◌, arith}
 use Rattle.std.specs.List.{AllZip, Contains}
 use Rattle.std.specs.Option.{option_or}
 use Rattle.addr_base.specs.Files.{file_at}
@@ -11,9 +11,10 @@ use Rattle.addr_project.specs.Model.{Project}
 use Rattle.addr_project.specs.Reach.{Row, Shown}
 use Rattle.addr_project.specs.Reading.{ProjectOf, path}
 use Rattle.addr_release.specs.Built.{IsReleaseOf}
-use Rattle.addr_release.specs.Held.{HasDigest}
+use Rattle.addr_release.specs.Held.{HasDigest, IsHeldAs}
 use Rattle.addr_release.specs.Names.{bundle_file, catalogue_path, hash_path, side_path, state_path}
 use Rattle.addr_release.specs.Opened.{Opened}
+use Rattle.addr_release.specs.Puts.{IsAfter}
 use Rattle.addr_release.specs.Resolve.{IsOpened, IsRelease, Resolve}
 use Rattle.addr_release.specs.Sound.{HasSoundRelease}
 use Rattle.addr_release.proofs.BuiltLemmas.{free-after, held-as, release-shows, release-sound, there-after}
@@ -25,12 +26,13 @@ use Rattle.addr_state.specs.declared.model.State.{State}
 use Rattle.addr_state.specs.declared.model.StateBundle.{StateBundle}
 use Rattle.addr_walks.proofs.Lists.{slice_get-Contains}
 use Rattle.addr_walks.proofs.Walking.{kept-along}
-use Rattle.addr_update.specs.After.{update_puts}
+use Rattle.addr_update.specs.After.{UpdatedRelease, update_puts}
 use Rattle.addr_update.specs.History.{Moment, IsShipped, IsEdit, IsBuild, IsUpdate, IsStep, UpdatesShow}
 use Rattle.addr_update.specs.Intact.{AreIntact, IsIntact}
-use Rattle.addr_update.specs.Laws.{LeavesShown}
+use Rattle.addr_update.specs.Laws.{IsUpdateOf, LeavesShown}
+use Rattle.addr_update.specs.Moved.{Update}
 use Rattle.addr_update.proofs.FreshLemmas.{all-intact}
-use Rattle.addr_update.proofs.PutLemmas.{all-after, all-far, catalogue-there, zip-in}
+use Rattle.addr_update.proofs.PutLemmas.{all-after, all-far, catalogue-there, keeps, zip-in}
 use Rattle.addr_update.proofs.ShowsLemmas.{all-shown}
 
 zip-each : {A B : Type 0} (R S : A → B → Type 0) → ((x : A) (y : B) → R x y → S x y) → (xs : List A) (ys : List B) → AllZip R xs ys → AllZip S xs ys
@@ -171,21 +173,29 @@ build-ships folder m n build =
       intact = subst (λ (s : State). AreIntact s n.files folder intact.0) (sym build.state) intact.1;
     }
 
+-- once its catalogue is put, an update leaves the state that the catalogue before it named
+pub held-after : (u : Update) (old : List MemFile) (folder : List ℕ) (present : Catalogue) (held : IsHeldAs old folder present u.state) (r : UpdatedRelease) (of : IsUpdateOf u old folder present.state r)
+    (new : List MemFile) (k : ℕ) → length r.bundles < k → IsAfter (take k (update_puts folder r)) old new → IsHeldAs new folder of.is.alike.0 u.state
+held-after u old folder present held r of new k far after =
+    let beside = aside folder present.state in
+    record {
+      bytes = r.catalogue;
+      there = catalogue-there u old folder present.state r of new k far after;
+      read = of.is.alike.1;
+      kept = held.kept;
+      kept_there = ap (λ d. file_at (state_path folder d) new) of.is.alike.3 ∙ keeps u old folder present.state r of new k far after (state_path folder present.state) held.kept beside.0 beside.1 held.kept_there;
+      kept_read = held.kept_read;
+      digest = subst (HasDigest held.kept) (sym of.is.alike.3) held.digest;
+    }
+
 update-ships : (folder : List ℕ) (m n : Moment) → IsUpdate folder m n → IsShipped folder n
 update-ships folder m n up = record {
   shows = λ key shown. subst (λ (p : Project). Resolve n.files folder key shown ↔ Shown p key shown) up.of_project (leaves.shows key shown);
   sound = leaves.sound;
   catalogue = up.of.is.alike.0;
-  held = record {
-    bytes = up.release.catalogue;
-    there = catalogue-there up.u m.files folder up.present.state up.release up.of n.files (length (update_puts folder up.release)) (all-far up.u m.files folder up.present.state up.release up.of) (all-after up.u m.files folder up.present.state up.release up.of n.files up.after);
-    read = up.of.is.alike.1;
-    kept = up.held.kept;
-    kept_there = ap (λ d. file_at (state_path folder d) n.files) up.of.is.alike.3
-        ∙ leaves.keeps (state_path folder up.present.state) up.held.kept beside.0 beside.1 up.held.kept_there;
-    kept_read = up.held.kept_read ∙ ap Ok (sym up.state);
-    digest = subst (HasDigest up.held.kept) (sym up.of.is.alike.3) up.held.digest;
-  };
+  held = subst (IsHeldAs n.files folder up.of.is.alike.0) (up.of_state ∙ sym up.state)
+      (held-after up.u m.files folder up.present (subst (IsHeldAs m.files folder up.present) (sym up.of_state) up.held) up.release up.of n.files (length (update_puts folder up.release))
+      (all-far up.u m.files folder up.present.state up.release up.of) (all-after up.u m.files folder up.present.state up.release up.of n.files up.after));
   was = up.u.was;
   intact = subst (λ (s : State). AreIntact s n.files folder up.u.was) (up.of_state ∙ sym up.state) leaves.intact;
 }
@@ -195,9 +205,6 @@ update-ships folder m n up = record {
 
     leaves : LeavesShown up.u m.files n.files folder
     leaves = all-shown up.u project m.files folder up.present.state up.release up.of n.files up.after up.apart
-
-    beside : (state_path folder up.present.state ≢ catalogue_path folder) × (state_path folder up.present.state ≢ hash_path folder)
-    beside = aside folder up.present.state
 
 step-keeps : ReadSound → (folder : List ℕ) (m n : Moment) → IsShipped folder m → IsStep folder m n → IsShipped folder n
 step-keeps sound folder m n was (inl edit) = edit-keeps sound folder m n was edit

@@ -5,6 +5,7 @@ use Rattle.std.proofs.lemmas.Cmp.{nat_list_cmp_total}
 use Rattle.std.proofs.lemmas.List.{length-map, take_all}
 use Rattle.std.specs.Cmp.Lexicographic.{slice_cmp}
 use Rattle.std.specs.List.{AllZip, Contains, slice_get}
+use Rattle.std.specs.List.Sorted.{IsStrictlySortedBy}
 use Rattle.std.specs.Ordering.{nat_cmp}
 use Rattle.addr_base.specs.Files.{file_at}
 use Rattle.addr_base.specs.Ids.{Are16Bytes, digest_of, hex_of}
@@ -16,6 +17,7 @@ use Rattle.addr_locate.specs.Rows.{rows_of, written}
 use Rattle.addr_locate.specs.declared.rows.BundleRow.{BundleRow}
 use Rattle.addr_locate.specs.declared.rows.PlainAsset.{PlainAsset}
 use Rattle.addr_locate.proofs.NumberLemmas.{written_back}
+use Rattle.addr_pack.specs.declared.bundles.Plan.{Plan}
 use Rattle.addr_pack.specs.declared.bundles.PlanBundle.{PlanBundle}
 use Rattle.addr_pack.proofs.DigestLemmas.{digests-fit}
 use Rattle.addr_project.specs.Reading.{path}
@@ -35,6 +37,7 @@ use Rattle.addr_release.proofs.TestLemmas.{bundle-side-free, bundles-free}
 use Rattle.addr_state.specs.Files.{file_name, side_file, side_folder}
 use Rattle.addr_state.specs.declared.model.StateBundle.{StateBundle}
 use Rattle.addr_walks.specs.Once.{AreOnce}
+use Rattle.addr_walks.specs.Places.{EachAt}
 use Rattle.addr_walks.proofs.Lists.{Contains-cases, Contains-here, Contains-later, Contains-map, Contains-none, Contains-slice_get, map-Contains, slice_get-Contains, sorted-map, sorted-once}
 use Rattle.addr_walks.proofs.Zips.{zip-left}
 use Rattle.addr_update.specs.After.{IsBundleAfter, NeedsAfter, UpdatedRelease, update_puts}
@@ -64,6 +67,37 @@ zip-in R S (x ∷ xs) (y ∷ ys) takes zip = (takes x y (Contains-here x xs) zip
 sum-fits : (files : List MemFile) (folder : List ℕ) (old : StateBundle) (w : Opened) → IsIntact files folder old w → Are16Bytes old.digest.0
 sum-fits files folder old w intact = subst Are16Bytes intact.digest (digests-fit intact.file)
 
+-- ---- names of first bundles
+
+module _ (u : Update) (plan : Plan) (old : List MemFile) (folder : List ℕ) (intact : AreIntact u.state old folder u.was) (rising : IsStrictlySortedBy by_name plan.bundles)
+    (bundles : List ReleaseBundle) (each : EachAt (IsBundleAfter u plan old folder) bundles) where
+  plan-once : AreOnce (map (λ (b : PlanBundle). b.name) plan.bundles)
+  plan-once = sorted-once nat_list_cmp_total (map (λ (b : PlanBundle). b.name) plan.bundles) (sorted-map by_name (slice_cmp nat_cmp) (λ (b : PlanBundle). b.name) plan.bundles (λ x y here there less. less) rising)
+
+  key-of : (b : ℕ) (made : ReleaseBundle) → slice_get bundles b ≡ Some made
+      → (bundle : PlanBundle) × (slice_get plan.bundles b ≡ Some bundle) × (digest : Digest) × Are16Bytes digest.0 × (made.row.key ≡ file_name bundle.name digest)
+  key-of b made at = by_kind (each b made at)
+    where
+      by_kind : IsBundleAfter u plan old folder b made → (bundle : PlanBundle) × (slice_get plan.bundles b ≡ Some bundle) × (digest : Digest) × Are16Bytes digest.0 × (made.row.key ≡ file_name bundle.name digest)
+      by_kind (inl new) = (new.bundle, new.at, digest_from made.file, digests-fit made.file, new.told.key)
+      by_kind (inr kept) =
+          let w = zip-left (IsIntact old folder) u.state.bundles u.was intact kept.number kept.is.old kept.is.stays.0 in
+          (kept.is.bundle, kept.is.at, kept.is.old.digest, sum-fits old folder kept.is.old w.0 w.2, kept.told.key ∙ ap (λ n. file_name n kept.is.old.digest) (sym kept.is.name))
+
+  -- all bundles of an update, or the first ones, have names of bundles' files as keys
+  pub made-named : AreNamed bundles
+  made-named = record {
+    named = λ made here. (let at = slice_get-Contains bundles made here in let key = key-of at.0 made at.1 in (key.0.name, key.2, key.3, key.4));
+    once = λ i j key here there.
+        let first = from_map (λ (made : ReleaseBundle). made.row.key) bundles i key here in
+        let second = from_map (λ (made : ReleaseBundle). made.row.key) bundles j key there in
+        let one = key-of i first.0 first.1 in
+        let two = key-of j second.0 second.1 in
+        let names = key-name one.0.name two.0.name one.2 two.2 one.3 two.3 (sym one.4 ∙ (first.2 ∙ (sym second.2 ∙ two.4))) in
+        plan-once i j two.0.name
+        (to_map (λ (b : PlanBundle). b.name) plan.bundles i one.0 one.1 ∙ ap Some names) (to_map (λ (b : PlanBundle). b.name) plan.bundles j two.0 two.1);
+  }
+
 module _ (u : Update) (old : List MemFile) (folder : List ℕ) (named : Option Digest) (r : UpdatedRelease) (of : IsUpdateOf u old folder named r) where
   pub state-once : AreOnce (map (λ (b : StateBundle). b.name) u.state.bundles)
   state-once = sorted-once nat_list_cmp_total (map (λ (b : StateBundle). b.name) u.state.bundles) of.sound.names_rise
@@ -73,32 +107,8 @@ module _ (u : Update) (old : List MemFile) (folder : List ℕ) (named : Option D
 
   -- ---- names
 
-  plan-once : AreOnce (map (λ (b : PlanBundle). b.name) of.plan.bundles)
-  plan-once = sorted-once nat_list_cmp_total (map (λ (b : PlanBundle). b.name) of.plan.bundles)
-      (sorted-map by_name (slice_cmp nat_cmp) (λ (b : PlanBundle). b.name) of.plan.bundles (λ x y here there less. less) of.updated.rising)
-
-  key-of : (b : ℕ) (made : ReleaseBundle) → slice_get r.bundles b ≡ Some made
-      → (bundle : PlanBundle) × (slice_get of.plan.bundles b ≡ Some bundle) × (digest : Digest) × Are16Bytes digest.0 × (made.row.key ≡ file_name bundle.name digest)
-  key-of b made at = by_kind (of.is.rows.each b made at)
-    where
-      by_kind : IsBundleAfter u of.plan old folder b made → (bundle : PlanBundle) × (slice_get of.plan.bundles b ≡ Some bundle) × (digest : Digest) × Are16Bytes digest.0 × (made.row.key ≡ file_name bundle.name digest)
-      by_kind (inl new) = (new.bundle, new.at, digest_from made.file, digests-fit made.file, new.told.key)
-      by_kind (inr kept) =
-          let w = was-at kept.number kept.is.old kept.is.stays.0 in
-          (kept.is.bundle, kept.is.at, kept.is.old.digest, sum-fits old folder kept.is.old w.0 w.2, kept.told.key ∙ ap (λ n. file_name n kept.is.old.digest) (sym kept.is.name))
-
   bundles-named : AreNamed r.bundles
-  bundles-named = record {
-    named = λ made here. (let at = slice_get-Contains r.bundles made here in let key = key-of at.0 made at.1 in (key.0.name, key.2, key.3, key.4));
-    once = λ i j key here there.
-        let first = from_map (λ (made : ReleaseBundle). made.row.key) r.bundles i key here in
-        let second = from_map (λ (made : ReleaseBundle). made.row.key) r.bundles j key there in
-        let one = key-of i first.0 first.1 in
-        let two = key-of j second.0 second.1 in
-        let names = key-name one.0.name two.0.name one.2 two.2 one.3 two.3 (sym one.4 ∙ (first.2 ∙ (sym second.2 ∙ two.4))) in
-        plan-once i j two.0.name
-        (to_map (λ (b : PlanBundle). b.name) of.plan.bundles i one.0 one.1 ∙ ap Some names) (to_map (λ (b : PlanBundle). b.name) of.plan.bundles j two.0 two.1);
-  }
+  bundles-named = made-named u of.plan old folder of.intact of.updated.rising r.bundles of.is.rows.each
 
   abbrev pub content : List MemFile
   content = map (bundle_put folder) r.bundles

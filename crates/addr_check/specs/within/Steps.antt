@@ -1,18 +1,15 @@
--- The two steps of checking: reading a folder, and comparing what was read.
+-- The two steps of comparing: reading a folder, and deciding over what was read.
 use Rattle.std.specs.Prelude.{ℕ, ◌≡◌, List, Result, Ok, Err}
 use Rattle.addr_base.specs.declared.files.MemFile.{MemFile}
 use Rattle.addr_catalog.specs.declared.catalogue.Catalogue.{Catalogue}
-use Rattle.addr_held.specs.Opening.{HasBadCatalogue, HoldsRelease, IsWrong, LacksFile, was_of}
+use Rattle.addr_held.specs.Opening.{HasBadCatalogue, HoldsRelease, IsWrong, LacksFile}
 use Rattle.addr_held.specs.declared.release.Release.{Release}
-use Rattle.addr_moves.specs.Fates.{AreMoves, comparing}
 use Rattle.addr_pack.specs.LongNames.{IsFirstLong}
-use Rattle.addr_pack.specs.Placement.{IsPlaced}
-use Rattle.addr_pack.specs.declared.bundles.Plan.{Plan}
 use Rattle.addr_project.specs.Model.{Project as Contents}
 use Rattle.addr_project.specs.Reading.{ProjectFault, ProjectOf}
 use Rattle.addr_project.specs.declared.limit.Limit.TheVariants as limit
 use Rattle.addr_resolve.specs.Resolving.{HasCatalogue}
-use Rattle.addr_update.specs.declared.model.Move.{Move}
+use Rattle.addr_check.specs.declared.checking.Compared.{Compared}
 use Rattle.addr_check.specs.declared.error.CheckErr.{CheckErr}
 use Rattle.addr_check.specs.declared.error.CheckErr.TheVariants.{Project, NoRelease, BadCatalogue, BadRelease, TooLarge, DepotFault, NoMemory}
 
@@ -28,11 +25,11 @@ ReadsBoth project release files folder (Err (TooLarge which size)) = ⊥
 ReadsBoth project release files folder (Err DepotFault) = Unit {0}
 ReadsBoth project release files folder (Err NoMemory) = Unit {0}
 
--- the moves from a release to a project
-abbrev pub TellsMoves : Contents → Release → List Move → Type 0
-TellsMoves p r moves = (now : Plan) × IsPlaced p now × AreMoves (comparing r.state (was_of r) r.catalogue.locator p now) moves
+-- what is compared is of this project and this release
+abbrev pub IsOf : Contents → Release → Compared → Type 0
+IsOf p r c = (c.project ≡ p) × (c.release ≡ r)
 
--- why they aren't told
+-- why nothing is compared
 abbrev pub RefusesComparing : Contents → CheckErr → Type 0
 RefusesComparing p (Project fault) = ⊥
 RefusesComparing p (NoRelease name) = ⊥

@@ -1,5 +1,5 @@
 -- Kept entries by the bundles of the state, one entry and one bundle after the other.
-use Rattle.std.specs.Prelude.{ℕ, ◌≡◌, ◌<◌, ◌⊎◌, List, [], ◌∷◌, ◌++◌, Option, Some, None, true}
+use Rattle.std.specs.Prelude.{ℕ, ◌≡◌, ◌<◌, ◌⊎◌, List, [], ◌∷◌, ◌++◌, map, Option, Some, None, true}
 use Rattle.std.specs.List.{Contains, slice_get}
 use Rattle.std.specs.Ordering.{nat_cmp}
 use Rattle.addr_project.specs.declared.model.Group.{Group}
@@ -8,6 +8,7 @@ use Rattle.addr_release.specs.Built.{IsFixedName}
 use Rattle.addr_state.specs.declared.model.State.{State}
 use Rattle.addr_state.specs.declared.model.StateBundle.{StateBundle}
 use Rattle.addr_update.specs.declared.model.KeptBundle.{KeptBundle}
+use Rattle.addr_walks.specs.Once.{AreOnce}
 use Rattle.addr_walks.specs.Places.{EachAt}
 use Rattle.addr_walks.specs.Walks.{IsListOf}
 use Rattle.addr_moves.specs.declared.fate.Fate.{Fate}
@@ -43,9 +44,11 @@ pub record IsKeptFrom (s : State) (p : Project) (fates : List Fate) (b : KeptBun
   pub group_name : group.name ≡ old.group
   pub entries : IsListOf nat_cmp (λ x. slice_get fates x ≡ Some (Kept m)) b.entries
 
--- these are those of the first bundles of the state
+-- these are those of the first bundles of the state, each named once where the state's are
 pub record KeptUpTo (s : State) (p : Project) (fates : List Fate) (k : ℕ) (kept : List KeptBundle) : Type 0 where
   pub within : (b : KeptBundle) → Contains kept b → (m : ℕ) × (old : StateBundle) × IsKeptFrom s p fates b m old
   pub all : (m : ℕ) (old : StateBundle) → m < k → slice_get s.bundles m ≡ Some old → Contains s.fixed old.group
       → IsFixedName p old.group
       → (b : KeptBundle) × Contains kept b × IsKeptFrom s p fates b m old
+  pub below : (b : KeptBundle) → Contains kept b → (m : ℕ) × (old : StateBundle) × (m < k) × (slice_get s.bundles m ≡ Some old) × (b.name ≡ old.name)
+  pub once : AreOnce (map (λ b. b.name) s.bundles) → AreOnce (map (λ b. b.name) kept)

@@ -1,8 +1,10 @@
 use Rattle.std.proofs.Common.{◌∙◌, refl, subst, sym, ap, length}
+use Rattle.addr_release.specs.Built.{IsBundleOf}
 use Rattle.addr_build.specs.within.Building.{PutsRelease}
 use Rattle.addr_build.specs.declared.error.PutErr.TheVariants.{NoMemory}
 use Rattle.addr_build.proofs.EndLemmas.{err-is}
 use Rattle.addr_build.proofs.IndexLemmas.{laid-rows}
+use Rattle.addr_build.proofs.KeyLemmas.{built-apart}
 use Rattle.addr_build.proofs.LaidLemmas.{many}
 use Rattle.addr_build.proofs.ReleaseLemmas.{release-memory, release-stopped, release-done}
 use Rattle.addr_build.proofs.release.put_release.Goals as goal
@@ -15,7 +17,7 @@ returns-in_err-index-clause-puts g c =
     let old = g.D.Depot.now c.args.depot.now in
     let mid = g.D.Depot.now c.put_bundles.new.depot in
     subst (PutsRelease p plan folder old mid) (sym (err-is c.from_residual-in_err-index.result NoMemory c.from_residual-in_err-index.ensures.1))
-    (release-memory p plan folder c.requires.placed old mid mid c.in_ok-laid.laid.rows c.in_ok-laid.laid.put c.in_ok-laid.ensures.puts.0)
+    (release-memory p plan folder old mid mid c.in_ok-laid.laid.rows c.in_ok-laid.laid.put c.in_ok-laid.ensures.puts.0)
 
 pub returns-in_err-put_state_and_catalogue-clause-puts : goal.returns-in_err-put_state_and_catalogue-clause-puts
 returns-in_err-put_state_and_catalogue-clause-puts g c =
@@ -28,11 +30,11 @@ returns-in_err-put_state_and_catalogue-clause-puts g c =
     let (laid, length_is, few, still) = c.in_ok-laid.ensures.puts in
     let rows = c.in_ok-laid.laid.rows in
     let put = c.in_ok-laid.laid.put in
-    let number = sym (many p plan folder c.requires.placed old mid mid rows put laid) ∙ length_is in
+    let number = sym (many (IsBundleOf p plan) folder (built-apart p plan c.requires.placed) old mid mid rows put laid) ∙ length_is in
     let index = c.in_ok-index.ensures laid.bundles laid.each number laid.told in
     let e = c.in_err-put_state_and_catalogue.field-0.0 in
     subst (PutsRelease p plan folder old new) (sym (err-is c.from_residual-in_err-put_state_and_catalogue.result e c.from_residual-in_err-put_state_and_catalogue.ensures.1))
-    (release-stopped p plan folder c.requires.placed old mid new rows put laid c.in_ok-index.index.state c.in_ok-index.index.catalogue c.as_slice.result.now c.as_slice-2.result.now e index c.as_slice.ensures c.as_slice-2.ensures c.in_err-put_state_and_catalogue.ensures.ends)
+    (release-stopped p plan folder old mid new rows put laid c.in_ok-index.index.state c.in_ok-index.index.catalogue c.as_slice.result.now c.as_slice-2.result.now e index c.as_slice.ensures c.as_slice-2.ensures c.in_err-put_state_and_catalogue.ensures.ends)
 
 pub returns-clause-puts : goal.returns-clause-puts
 returns-clause-puts g c =
@@ -45,9 +47,9 @@ returns-clause-puts g c =
     let (laid, length_is, few, still) = c.in_ok-laid.ensures.puts in
     let rows = c.in_ok-laid.laid.rows in
     let put = c.in_ok-laid.laid.put in
-    let number = sym (many p plan folder c.requires.placed old mid mid rows put laid) ∙ length_is in
+    let number = sym (many (IsBundleOf p plan) folder (built-apart p plan c.requires.placed) old mid mid rows put laid) ∙ length_is in
     let index = c.in_ok-index.ensures laid.bundles laid.each number laid.told in
-    release-done p plan folder c.requires.placed old mid new rows put laid c.in_ok-index.index.state c.in_ok-index.index.catalogue c.as_slice.result.now c.as_slice-2.result.now _ _ index c.as_slice.ensures c.as_slice-2.ensures
+    release-done p plan folder old mid new rows put laid c.in_ok-index.index.state c.in_ok-index.index.catalogue c.as_slice.result.now c.as_slice-2.result.now _ _ index c.as_slice.ensures c.as_slice-2.ensures
     c.in_ok-put_state_and_catalogue.ensures.ends refl c.len.ensures refl (ap length c.entries.ensures) still c.in_ok-put_state_and_catalogue.ensures.again
 
 pub index_of-requires-clause-rows : goal.index_of-requires-clause-rows

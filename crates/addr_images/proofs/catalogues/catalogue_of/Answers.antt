@@ -1,16 +1,22 @@
-use Rattle.std.proofs.Common.{◌≡◌, List, Some, map, ap, subst, sym, ◌∙◌}
-use Rattle.std.specs.Prelude.{IsTrue}
-use Rattle.addr_catalog.specs.ReadsAlike.{ReadsAlike}
-use Rattle.addr_catalog.specs.declared.catalogue.Catalogue.{Catalogue}
-use Rattle.addr_locate.specs.Rows.{Rows, no_text_twice}
-use Rattle.addr_locate.specs.declared.rows.BundleRow.{BundleRow}
-use Rattle.addr_images.proofs.FitLemmas.{distinct-keys, rows-bundles}
+use Rattle.std.proofs.Common.{subst, sym, ◌∙◌}
+use Rattle.addr_layout.specs.Direct.{Closes}
+use Rattle.addr_layout.specs.Needs.{Needs}
+use Rattle.addr_images.proofs.EntryLemmas.{rows-closed}
+use Rattle.addr_images.proofs.FitLemmas.{keys-apart}
 use Rattle.addr_images.proofs.catalogues.catalogue_of.Goals as goal
 
-pub returns-clause-alike : goal.returns-clause-alike
-returns-clause-alike c =
-    let rows : List BundleRow = c.args.rows in
-    let located = c.in_ok-locator.ensures in
-    let bundles : rows ≡ c.in_ok-locator.locator.bundles = sym (ap (λ (r : Rows). r.bundles) located ∙ rows-bundles rows c.args.assets.items) in
-    let distinct = subst (λ (bs : List BundleRow). IsTrue (no_text_twice (map (λ b. b.key) bs))) bundles (distinct-keys c.args.project.now c.args.plan.now rows c.requires.placed c.requires.rows) in
-    subst (λ (r : Rows). let whole : Catalogue = record { locator = r; state = Some c.args.state } in ReadsAlike c.in_ok-bytes.bytes.items whole) located (c.in_ok-bytes.ensures.reads distinct)
+pub catalogue_over-requires-clause-apart : goal.catalogue_over-requires-clause-apart
+catalogue_over-requires-clause-apart c = keys-apart c.args.project.now c.args.plan.now c.args.rows c.requires.placed c.requires.rows
+
+pub returns : goal.returns
+returns c =
+    let p = c.args.project.now in
+    let plan = c.args.plan.now in
+    let direct = c.as_slice-direct.result.now in
+    let closes = subst (Closes (Needs p plan)) (sym (c.as_slice-direct.ensures ∙ c.in_ok-direct.ensures)) (c.direct_closes.ensures.closes c.placement_is_shared.ensures.new) in
+    record {
+      assets = c.in_ok-assets.assets.items;
+      entries = rows-closed p plan (Needs p plan) direct p.entries c.in_ok-assets.assets.items closes c.in_ok-assets.ensures;
+      text = c.in_ok-bytes.ensures.text;
+      alike = c.in_ok-bytes.ensures.alike;
+    }

@@ -1,4 +1,4 @@
-use Rattle.std.proofs.Common.{◌≡◌, ◌<◌, ◌+◌, List, ℕ, Option, None, Some, get_or, length, subst, sym, ap, ◌∙◌, arith}
+use Rattle.std.proofs.Common.{◌≡◌, ◌<◌, ◌≤◌, ◌+◌, List, ℕ, Option, None, Some, get_or, length, subst, sym, ap, ◌∙◌, arith}
 use Rattle.std.proofs.lemmas.Option.{slice_get-get_or}
 use Rattle.std.specs.List.{slice_get}
 use Rattle.addr_state.specs.declared.model.StateBundle.{StateBundle}
@@ -6,7 +6,7 @@ use Rattle.addr_walks.proofs.Zips.{zip-left}
 use Rattle.addr_moves.specs.Stays.{StaysAs}
 use Rattle.addr_moves.specs.within.Split.{KeptUpTo}
 use Rattle.addr_moves.proofs.GroupLemmas.{read-in, same-at, zip-long}
-use Rattle.addr_moves.proofs.KeptRowLemmas.{kept-more}
+use Rattle.addr_moves.proofs.KeptRowLemmas.{kept-all, kept-more}
 use Rattle.addr_moves.proofs.splitting.kept_of.Goals as goal
 
 pub bounds-groups-m : goal.bounds-groups-m
@@ -38,3 +38,9 @@ loop-m-preserved c =
     let row-at = read-in c.as_slice-rows.result.now c.in_ok-made.made m c.index-rows-m.result c.as_slice-rows.ensures (subst (λ n. m < n) (sym c.in_ok-made.ensures.many) c.loop-m-test.true) c.index-rows-m.is in
     subst (KeptUpTo s p fates (m + 1)) (sym c.in_ok-add_kept.ensures)
     (kept-more fates s p m old group row c.loop-m.kept at stays (c.in_ok-made.ensures.rows m row (row-at ∙ ap Some (sym c.as_slice.ensures))) c.loop-m.invariant)
+
+pub returns : goal.returns
+returns c =
+    let s = c.args.state.now in
+    let all : length s.bundles ≤ c.loop-m.m = subst (λ (bs : List StateBundle). length bs ≤ c.loop-m.m) c.as_slice-bundles.ensures c.loop-m-test.false in
+    kept-all c.args.fates.now s c.args.project.now c.loop-m.m c.loop-m.kept all c.loop-m.invariant

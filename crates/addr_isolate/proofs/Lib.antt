@@ -1,0 +1,13 @@
+pub mod SetLemmas
+pub mod KeepLemmas
+pub mod RowsLemmas
+pub mod ChainLemmas
+pub mod PlainLemmas
+pub mod FileLemmas
+pub mod FaultLemmas
+pub mod FolderLemmas
+pub mod DocumentLemmas
+pub mod NameLemmas
+pub mod IsolateLemmas
+pub mod LeaveLemmas
+pub mod LawLemmas

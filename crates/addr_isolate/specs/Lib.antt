@@ -1,0 +1,4 @@
+pub mod Document
+pub mod Shallow
+pub mod Isolating
+pub mod Leaving

@@ -1,0 +1,3 @@
+-- What private functions say, and no clause of a public call reaches.
+pub mod Names
+pub mod Naming

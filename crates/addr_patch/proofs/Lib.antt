@@ -1,0 +1,9 @@
+pub mod PrepareLemmas
+pub mod KeptLemmas
+pub mod BundleLemmas
+pub mod PuttingLemmas
+pub mod StepLemmas
+pub mod ComparedLemmas
+pub mod PatchedLemmas
+pub mod ServeLemmas
+pub mod UpdateLemmas
