@@ -1,4 +1,5 @@
 pub mod ListingLemmas
+pub mod LoadLemmas
 pub mod OnceLemmas
 pub mod OutcomeLemmas
 pub mod PlanningLemmas

@@ -15,6 +15,7 @@ use Rattle.addr_locate.specs.PlainRows.{ReadsRows}
 use Rattle.addr_locate.specs.Rows.{Rows}
 use Rattle.addr_locate.specs.declared.error.RowsErr.TheVariants.{Line as RowsLine}
 use Rattle.addr_script.specs.Scripts.{ReadsScript, Script}
+use Rattle.addr_script.specs.declared.command.Grammar.TheVariants.{Simulate}
 use Rattle.addr_script.specs.declared.error.ScriptErr.TheVariants.{Line as ScriptLine}
 use Rattle.addr_base.specs.Streams.{Stream}
 use Rattle.addr_cli.specs.Outcome.{EndsWith, Ends, Simulates, ShowsRows, Inspects, Plans, Planned, IsPlannable, RunsTo, HasCauses, IsReady, IsSound, IsComplete, HasCatalogue, HasPlainRows, HasRows, HasScript, IsBadCatalogue, IsBadPlain}
@@ -64,7 +65,7 @@ sound_text files rows script (Err (BadRows n)) r has_rows s has_script simulates
   | inr plain ↦ absurd (no_bad_line files rows r n plain.1 simulates.1)
 ]
 sound_text files rows script (Err (BadScript n)) r has_rows s has_script simulates =
-    let P : List ℕ → Type 0 = λ b. ReadsScript b (Err (ScriptLine n)) in
+    let P : List ℕ → Type 0 = λ b. ReadsScript Simulate b (Err (ScriptLine n)) in
     absurd (script_read_once has_script.bytes s n has_script.read (subst P (one_text script files has_script.bytes simulates.2 has_script.file simulates.3) simulates.4))
 sound_text files rows script (Err (BadBundle token n)) r has_rows s has_script simulates = absurd simulates
 sound_text files rows script (Err (BadProject fault)) r has_rows s has_script simulates = absurd simulates

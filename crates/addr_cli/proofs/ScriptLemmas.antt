@@ -6,6 +6,7 @@ use Rattle.addr_base.specs.Files.{Store, file_at}
 use Rattle.addr_base.specs.declared.files.MemFile.{MemFile}
 use Rattle.addr_locate.specs.Rows.{Rows}
 use Rattle.addr_script.specs.Scripts.{ReadsScript, Script}
+use Rattle.addr_script.specs.declared.command.Grammar.TheVariants.{Simulate}
 use Rattle.addr_simulate.specs.SimText.{SimText, SimulatesScript, limit_of}
 use Rattle.addr_script.specs.declared.error.ScriptErr.{ScriptErr}
 use Rattle.addr_script.specs.declared.error.ScriptErr.TheVariants.{Line, NoMemory}
@@ -15,7 +16,7 @@ use Rattle.addr_cli.specs.Words.{simulate}
 use Rattle.addr_cli.specs.declared.refusal.Refusal.{Refusal}
 use Rattle.addr_cli.specs.declared.refusal.Refusal.TheVariants.{BadScript}
 
-module _ (rows script bytes : List ℕ) (r : Rows) (n : ℕ) (bad : ReadsScript bytes (Err (Line n))) where
+module _ (rows script bytes : List ℕ) (r : Rows) (n : ℕ) (bad : ReadsScript Simulate bytes (Err (Line n))) where
   bad_line : (o p : Option (List MemFile)) → p ≡ o → IfSome o (λ files. HasRows files rows r) → IfSome p (λ files. file_at script files ≡ Some bytes)
       → IfSome o (λ files. Simulates files rows script (Err (BadScript n)))
   bad_line None p same has at = tt
@@ -27,7 +28,7 @@ is_refusal (Err e) refusal is = ap Err is
 
 pub script_refused : (rows script bytes : List ℕ) (r : Rows) (old one new : Store) (e : ScriptErr) (result : Result (List ℕ) Refusal)
     → IfSome old.files (λ files. HasRows files rows r) → IfSome one.files (λ files. file_at script files ≡ Some bytes) → one.files ≡ old.files
-    → ReadsScript bytes (Err e) → IsErrAnd result (λ f. f ≡ from_script e) → CommandEnds (simulate rows script) old new result
+    → ReadsScript Simulate bytes (Err e) → IsErrAnd result (λ f. f ≡ from_script e) → CommandEnds (simulate rows script) old new result
 script_refused rows script bytes r old one new (Line n) result has at same bad is =
     subst (CommandEnds (simulate rows script) old new) (sym (is_refusal result (from_script (Line n)) is)) (bad_line rows script bytes r n bad old.files one.files same has at)
 script_refused rows script bytes r old one new NoMemory result has at same bad is = subst (CommandEnds (simulate rows script) old new) (sym (is_refusal result (from_script NoMemory) is)) tt

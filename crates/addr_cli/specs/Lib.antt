@@ -1,5 +1,6 @@
 pub mod Inspecting
 pub mod Listing
+pub mod Loading
 pub mod Outcome
 pub mod Planning
 pub mod Refusals

@@ -30,6 +30,7 @@ use Rattle.addr_locate.specs.PlainText.{plain_text}
 use Rattle.addr_locate.specs.Rows.{Rows}
 use Rattle.addr_locate.specs.declared.error.RowsErr.TheVariants.{Line as RowsLine}
 use Rattle.addr_script.specs.Scripts.{ReadsScript, Script}
+use Rattle.addr_script.specs.declared.command.Grammar.TheVariants.{Simulate}
 use Rattle.addr_script.specs.declared.error.ScriptErr.TheVariants.{Line as ScriptLine}
 use Rattle.addr_simulate.specs.SimText.{limit_of, SimText}
 use Rattle.addr_cli.specs.Refusals.{ended_status, ended_text}
@@ -51,7 +52,7 @@ pub record HasPlainRows (files : List MemFile) (name : List ℕ) (rows : Rows) :
 pub record HasScript (files : List MemFile) (name : List ℕ) (script : Script) : Type 0 where
   pub bytes : List ℕ
   pub file : file_at name files ≡ Some bytes
-  pub read : ReadsScript bytes (Ok script)
+  pub read : ReadsScript Simulate bytes (Ok script)
 
 -- a file of rows is a catalogue where its name ends so, and in the plain form otherwise
 abbrev pub HasRows : List MemFile → List ℕ → Rows → Type 0
@@ -70,7 +71,7 @@ Simulates files rows script (Ok text) = (r : Rows) × (s : Script) × HasRows fi
 Simulates files rows script (Err (NoFile token)) = ((file_at rows files ≡ None) × (token ≡ token_of rows)) ⊎ ((r : Rows) × HasRows files rows r × (file_at script files ≡ None) × (token ≡ token_of script))
 Simulates files rows script (Err (BadCatalogue n)) = IsJsonName rows × IsBadCatalogue files rows n
 Simulates files rows script (Err (BadRows n)) = (¬ IsJsonName rows) × IsBadPlain files rows n
-Simulates files rows script (Err (BadScript n)) = (r : Rows) × HasRows files rows r × (bytes : List ℕ) × (file_at script files ≡ Some bytes) × ReadsScript bytes (Err (ScriptLine n))
+Simulates files rows script (Err (BadScript n)) = (r : Rows) × HasRows files rows r × (bytes : List ℕ) × (file_at script files ≡ Some bytes) × ReadsScript Simulate bytes (Err (ScriptLine n))
 Simulates files rows script (Err _) = ⊥
 
 -- what `rows` ends with over these files: the rows of the catalogue that the file is in the plain form, else its first fault

@@ -53,7 +53,8 @@ fn rows_of(alloc: Global, name: &Text, bytes: &[u8]) -> Result<Locator, Refusal>
     }
 }
 
-fn catalogue_of(alloc: Global, bytes: &[u8]) -> Result<Catalogue, Refusal>
+/// The catalogue that the bytes are.
+pub fn catalogue_of(alloc: Global, bytes: &[u8]) -> Result<Catalogue, Refusal>
     ensures { ReadsCatalogue bytes.now result }
 {
     match read_catalog(alloc, bytes) {

@@ -16,6 +16,7 @@ mod reading;
 mod start;
 #[cfg(test)]
 mod tests;
+mod told;
 mod waiters;
 mod wanted;
 

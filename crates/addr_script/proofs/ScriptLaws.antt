@@ -1,5 +1,5 @@
 -- Laws of scripts: lines are at most one script, what begins a script is one, and lines have one first bad line or none.
-use Rattle.std.proofs.Common.{ℕ, ◌≡◌, ◌==◌, ◌<◌, ◌≤◌, ◌+◌, ◌-◌, ◌∙◌, ◌^◌, inl, inr, zero, suc, Bool, true, false, List, [], ◌∷◌, ◌++◌, map, take, length, refl, ap, sym, subst, arith, codes, decimal, Option, Some, None, IfSome}
+use Rattle.std.proofs.Common.{ℕ, ◌≡◌, ◌==◌, ◌<◌, ◌≤◌, ◌+◌, ◌-◌, ◌∙◌, ◌^◌, inl, inr, zero, suc, Bool, true, false, List, [], ◌∷◌, ◌++◌, map, take, length, refl, ap, sym, subst, arith, codes, decimal, Option, Some, None, IfSome, MatchOption}
 use Rattle.std.specs.List.{AllByRecursion, take-map}
 use Rattle.std.proofs.lemmas.Bool.{false≢true, cases_lt}
 use Rattle.std.proofs.lemmas.Bool.Decides.{nat_tests}
@@ -22,10 +22,11 @@ use Rattle.addr_script.proofs.ScriptLemmas.{no_limit_first, no_set_line}
 use Rattle.addr_script.proofs.WordLemmas.{all_free, kind_free, mode_free, no_mark_token}
 use Rattle.addr_script.specs.Causes.{cause_text, IsGivenCause}
 use Rattle.addr_base.specs.declared.var.Var.{Var}
-use Rattle.addr_script.specs.Commands.{asked_keys_field, kind_field, mode_word, one_or_all, set_line, spell, AreTexts, IsCommand, IsKind, IsSet}
+use Rattle.addr_script.specs.Commands.{asked_keys_field, kind_field, mode_word, one_or_all, set_line, spell, takes, AreTexts, IsCommand, IsKind, IsNone, IsOf, IsSet, Spells}
 use Rattle.addr_script.specs.Scripts.{body_lines, IsScript, IsFirstBad, IsLimit, Script, limit_lines}
 use Rattle.addr_script.specs.declared.command.Command.{Command}
-use Rattle.addr_script.specs.declared.command.Command.TheVariants.{Load, Acquire, Release, Status, References, Read, ReadAll, Count, Close, Take, Done, Fail}
+use Rattle.addr_script.specs.declared.command.Grammar.{Grammar}
+use Rattle.addr_script.specs.declared.command.Command.TheVariants.{Load, Acquire, Release, Status, Wait, References, Read, ReadAll, Count, Close, Take, Done, Fail}
 
 -- What begins a script
 
@@ -34,41 +35,41 @@ each_take P zero xs each = tt
 each_take P (suc n) [] each = tt
 each_take P (suc n) (x ∷ xs) each = (each.0, each_take P n xs each.1)
 
-body_take : (n : ℕ) (vars : List Var) (commands : List Command) → AllByRecursion IsSet vars → AllByRecursion IsCommand commands → (vs : List Var) × (cs : List Command) × (take n (body_lines vars commands) ≡ body_lines vs cs) × AllByRecursion IsSet vs × AllByRecursion IsCommand cs
-body_take zero vars commands sets each = ([], [], refl, tt, tt)
-body_take (suc n) [] commands sets each = ([], take (suc n) commands, take-map spell (suc n) commands, tt, each_take IsCommand (suc n) commands each)
-body_take (suc n) (v ∷ vars) commands sets each = let rest = body_take n vars commands sets.1 each in (v ∷ rest.0, rest.1, ap (λ ls. set_line v ∷ ls) rest.2, (sets.0, rest.3), rest.4)
+body_take : (g : Grammar) → (n : ℕ) (vars : List Var) (commands : List Command) → AllByRecursion IsSet vars → AllByRecursion (IsOf g) commands → (vs : List Var) × (cs : List Command) × (take n (body_lines vars commands) ≡ body_lines vs cs) × AllByRecursion IsSet vs × AllByRecursion (IsOf g) cs
+body_take g zero vars commands sets each = ([], [], refl, tt, tt)
+body_take g (suc n) [] commands sets each = ([], take (suc n) commands, take-map spell (suc n) commands, tt, each_take (IsOf g) (suc n) commands each)
+body_take g (suc n) (v ∷ vars) commands sets each = let rest = body_take g n vars commands sets.1 each in (v ∷ rest.0, rest.1, ap (λ ls. set_line v ∷ ls) rest.2, (sets.0, rest.3), rest.4)
 
-prefix : (lines : List (List ℕ)) (limit : Option ℕ) (vars : List Var) (commands : List Command) (n : ℕ) → lines ≡ limit_lines limit ++ body_lines vars commands → IfSome limit IsLimit → AllByRecursion IsSet vars → AllByRecursion IsCommand commands → length lines ≤ 100000 → (script : Script) × IsScript (take n lines) script
-prefix lines None vars commands n whole small sets each few =
-    let body = body_take n vars commands sets each in
+prefix : (g : Grammar) → (lines : List (List ℕ)) (limit : Option ℕ) (vars : List Var) (commands : List Command) (n : ℕ) → lines ≡ limit_lines limit ++ body_lines vars commands → IfSome limit IsLimit → AllByRecursion IsSet vars → AllByRecursion (IsOf g) commands → length lines ≤ 100000 → (script : Script) × IsScript g (take n lines) script
+prefix g lines None vars commands n whole small sets each few =
+    let body = body_take g n vars commands sets each in
     (record { limit = None; vars = body.0; commands = body.1 }, record { spelled = ap (take n) whole ∙ body.2; limit = tt; vars = body.3; commands = body.4; few = omega (arith, length-take n lines) })
-prefix lines (Some limit) vars commands zero whole small sets each few =
+prefix g lines (Some limit) vars commands zero whole small sets each few =
     (record { limit = None; vars = []; commands = [] }, record { spelled = refl; limit = tt; vars = tt; commands = tt; few = omega arith })
-prefix lines (Some limit) vars commands (suc n) whole small sets each few =
-    let body = body_take n vars commands sets each in
+prefix g lines (Some limit) vars commands (suc n) whole small sets each few =
+    let body = body_take g n vars commands sets each in
     (record { limit = Some limit; vars = body.0; commands = body.1 }, record { spelled = ap (take (suc n)) whole ∙ ap (λ more. limit_lines (Some limit) ++ more) body.2; limit = small; vars = body.3; commands = body.4; few = omega (arith, length-take (suc n) lines) })
 
-script_prefix : (lines : List (List ℕ)) (script : Script) (n : ℕ) → IsScript lines script → (front : Script) × IsScript (take n lines) front
-script_prefix lines script n is = prefix lines script.limit script.vars script.commands n is.spelled is.limit is.vars is.commands is.few
+script_prefix : (g : Grammar) → (lines : List (List ℕ)) (script : Script) (n : ℕ) → IsScript g lines script → (front : Script) × IsScript g (take n lines) front
+script_prefix g lines script n is = prefix g lines script.limit script.vars script.commands n is.spelled is.limit is.vars is.commands is.few
 
 -- The first bad line
 
-pub bad_no_script : (lines : List (List ℕ)) (n : ℕ) (script : Script) → IsFirstBad lines n → IsScript lines script → ⊥
-bad_no_script lines n script bad is = let front = script_prefix lines script n is in bad.bad front.0 front.1
+pub bad_no_script : (g : Grammar) → (lines : List (List ℕ)) (n : ℕ) (script : Script) → IsFirstBad g lines n → IsScript g lines script → ⊥
+bad_no_script g lines n script bad is = let front = script_prefix g lines script n is in bad.bad front.0 front.1
 
-no_earlier : (lines : List (List ℕ)) (n m : ℕ) → IsFirstBad lines n → IsFirstBad lines m → n < m → ⊥
-no_earlier lines n m bad later less =
-    let front = script_prefix (take (m - 1) lines) later.before.0 n later.before.1 in
-    let P : List (List ℕ) → Type 0 = λ ls. IsScript ls front.0 in
+no_earlier : (g : Grammar) → (lines : List (List ℕ)) (n m : ℕ) → IsFirstBad g lines n → IsFirstBad g lines m → n < m → ⊥
+no_earlier g lines n m bad later less =
+    let front = script_prefix g (take (m - 1) lines) later.before.0 n later.before.1 in
+    let P : List (List ℕ) → Type 0 = λ ls. IsScript g ls front.0 in
     bad.bad front.0 (subst P (take-take n (m - 1) lines (omega arith)) front.1)
 
-pub one_bad : (lines : List (List ℕ)) (n m : ℕ) → IsFirstBad lines n → IsFirstBad lines m → n ≡ m
-one_bad lines n m bad other =
+pub one_bad : (g : Grammar) → (lines : List (List ℕ)) (n m : ℕ) → IsFirstBad g lines n → IsFirstBad g lines m → n ≡ m
+one_bad g lines n m bad other =
     elim (cases_lt n m) [
-      | inl less ↦ absurd (no_earlier lines n m bad other less)
+      | inl less ↦ absurd (no_earlier g lines n m bad other less)
       | inr at_least ↦ elim (cases_lt m n) [
-        | inl more ↦ absurd (no_earlier lines m n other bad more)
+        | inl more ↦ absurd (no_earlier g lines m n other bad more)
         | inr at_most ↦ omega arith
       ]
     ]
@@ -189,7 +190,12 @@ load_own caller caller_2 all all_2 mode mode_2 kind kind_2 keys keys_2 is other 
     let same_keys = keys_own keys keys_2 is.2.0 other.2.0 fourth.1 in
     cc (first.0, same_all, same_mode, same_kind, same_keys)
 
--- bytes that tell the words of the commands apart by their sum
+-- the first byte of a text
+abbrev first_byte : List ℕ → ℕ
+first_byte [] = 0
+first_byte (a ∷ more) = a
+
+-- bytes that tell the words of the commands apart by their sum, `wait` and `done` aside
 abbrev word_mark : List ℕ → ℕ
 word_mark (a ∷ b ∷ c ∷ d ∷ e ∷ more) = a + b + c + e
 word_mark short = 0
@@ -199,6 +205,7 @@ spell_own (Load caller all mode kind keys) (Load caller_2 all_2 mode_2 kind_2 ke
 spell_own (Load caller all mode kind keys) (Acquire caller_2 op_2) is other e = absurd (apart 348 414 refl (ap word_mark e))
 spell_own (Load caller all mode kind keys) (Release caller_2 op_2) is other e = absurd (apart 348 420 refl (ap word_mark e))
 spell_own (Load caller all mode kind keys) (Status op_2) is other e = absurd (apart 348 445 refl (ap word_mark e))
+spell_own (Load caller all mode kind keys) (Wait op_2) is other e = absurd (apart 348 353 refl (ap word_mark e))
 spell_own (Load caller all mode kind keys) (References op_2) is other e = absurd (apart 348 349 refl (ap word_mark e))
 spell_own (Load caller all mode kind keys) (Read op_2 i_2) is other e = absurd (apart 348 344 refl (ap word_mark e))
 spell_own (Load caller all mode kind keys) (ReadAll op_2 i_2) is other e = absurd (apart 348 409 refl (ap word_mark e))
@@ -213,6 +220,7 @@ spell_own (Acquire caller op) (Acquire caller_2 op_2) is other e =
     cc (same.0, op_own op op_2 is.1 other.1 same.1)
 spell_own (Acquire caller op) (Release caller_2 op_2) is other e = absurd (apart 414 420 refl (ap word_mark e))
 spell_own (Acquire caller op) (Status op_2) is other e = absurd (apart 414 445 refl (ap word_mark e))
+spell_own (Acquire caller op) (Wait op_2) is other e = absurd (apart 414 353 refl (ap word_mark e))
 spell_own (Acquire caller op) (References op_2) is other e = absurd (apart 414 349 refl (ap word_mark e))
 spell_own (Acquire caller op) (Read op_2 i_2) is other e = absurd (apart 414 344 refl (ap word_mark e))
 spell_own (Acquire caller op) (ReadAll op_2 i_2) is other e = absurd (apart 414 409 refl (ap word_mark e))
@@ -227,6 +235,7 @@ spell_own (Release caller op) (Release caller_2 op_2) is other e =
     let same = number_then_own caller caller_2 (decimal op.0) (decimal op_2.0) is.0 other.0 (append_cancel_left (codes "release ") (decimal caller ++ 32 ∷ decimal op.0) (decimal caller_2 ++ 32 ∷ decimal op_2.0) e) in
     cc (same.0, op_own op op_2 is.1 other.1 same.1)
 spell_own (Release caller op) (Status op_2) is other e = absurd (apart 420 445 refl (ap word_mark e))
+spell_own (Release caller op) (Wait op_2) is other e = absurd (apart 420 353 refl (ap word_mark e))
 spell_own (Release caller op) (References op_2) is other e = absurd (apart 420 349 refl (ap word_mark e))
 spell_own (Release caller op) (Read op_2 i_2) is other e = absurd (apart 420 344 refl (ap word_mark e))
 spell_own (Release caller op) (ReadAll op_2 i_2) is other e = absurd (apart 420 409 refl (ap word_mark e))
@@ -239,6 +248,7 @@ spell_own (Status op) (Load caller_2 all_2 mode_2 kind_2 keys_2) is other e = ab
 spell_own (Status op) (Acquire caller_2 op_2) is other e = absurd (apart 445 414 refl (ap word_mark e))
 spell_own (Status op) (Release caller_2 op_2) is other e = absurd (apart 445 420 refl (ap word_mark e))
 spell_own (Status op) (Status op_2) is other e = ap Status (op_own op op_2 is other (append_cancel_left (codes "status ") (decimal op.0) (decimal op_2.0) e))
+spell_own (Status op) (Wait op_2) is other e = absurd (apart 445 353 refl (ap word_mark e))
 spell_own (Status op) (References op_2) is other e = absurd (apart 445 349 refl (ap word_mark e))
 spell_own (Status op) (Read op_2 i_2) is other e = absurd (apart 445 344 refl (ap word_mark e))
 spell_own (Status op) (ReadAll op_2 i_2) is other e = absurd (apart 445 409 refl (ap word_mark e))
@@ -247,10 +257,24 @@ spell_own (Status op) Close is other e = absurd (apart 445 419 refl (ap word_mar
 spell_own (Status op) (Take worker_2) is other e = absurd (apart 445 352 refl (ap word_mark e))
 spell_own (Status op) (Done worker_2 b_2) is other e = absurd (apart 445 353 refl (ap word_mark e))
 spell_own (Status op) (Fail worker_2 b_2 cause_2) is other e = absurd (apart 445 336 refl (ap word_mark e))
+spell_own (Wait op) (Load caller_2 all_2 mode_2 kind_2 keys_2) is other e = absurd (apart 353 348 refl (ap word_mark e))
+spell_own (Wait op) (Acquire caller_2 op_2) is other e = absurd (apart 353 414 refl (ap word_mark e))
+spell_own (Wait op) (Release caller_2 op_2) is other e = absurd (apart 353 420 refl (ap word_mark e))
+spell_own (Wait op) (Status op_2) is other e = absurd (apart 353 445 refl (ap word_mark e))
+spell_own (Wait op) (Wait op_2) is other e = ap Wait (op_own op op_2 is other (append_cancel_left (codes "wait ") (decimal op.0) (decimal op_2.0) e))
+spell_own (Wait op) (References op_2) is other e = absurd (apart 353 349 refl (ap word_mark e))
+spell_own (Wait op) (Read op_2 i_2) is other e = absurd (apart 353 344 refl (ap word_mark e))
+spell_own (Wait op) (ReadAll op_2 i_2) is other e = absurd (apart 353 409 refl (ap word_mark e))
+spell_own (Wait op) (Count b_2) is other e = absurd (apart 353 443 refl (ap word_mark e))
+spell_own (Wait op) Close is other e = absurd (apart 353 419 refl (ap word_mark e))
+spell_own (Wait op) (Take worker_2) is other e = absurd (apart 353 352 refl (ap word_mark e))
+spell_own (Wait op) (Done worker_2 b_2) is other e = absurd (apart 119 100 refl (ap first_byte e))
+spell_own (Wait op) (Fail worker_2 b_2 cause_2) is other e = absurd (apart 353 336 refl (ap word_mark e))
 spell_own (References op) (Load caller_2 all_2 mode_2 kind_2 keys_2) is other e = absurd (apart 349 348 refl (ap word_mark e))
 spell_own (References op) (Acquire caller_2 op_2) is other e = absurd (apart 349 414 refl (ap word_mark e))
 spell_own (References op) (Release caller_2 op_2) is other e = absurd (apart 349 420 refl (ap word_mark e))
 spell_own (References op) (Status op_2) is other e = absurd (apart 349 445 refl (ap word_mark e))
+spell_own (References op) (Wait op_2) is other e = absurd (apart 349 353 refl (ap word_mark e))
 spell_own (References op) (References op_2) is other e = ap References (op_own op op_2 is other (append_cancel_left (codes "refs ") (decimal op.0) (decimal op_2.0) e))
 spell_own (References op) (Read op_2 i_2) is other e = absurd (apart 349 344 refl (ap word_mark e))
 spell_own (References op) (ReadAll op_2 i_2) is other e = absurd (apart 349 409 refl (ap word_mark e))
@@ -263,6 +287,7 @@ spell_own (Read op i) (Load caller_2 all_2 mode_2 kind_2 keys_2) is other e = ab
 spell_own (Read op i) (Acquire caller_2 op_2) is other e = absurd (apart 344 414 refl (ap word_mark e))
 spell_own (Read op i) (Release caller_2 op_2) is other e = absurd (apart 344 420 refl (ap word_mark e))
 spell_own (Read op i) (Status op_2) is other e = absurd (apart 344 445 refl (ap word_mark e))
+spell_own (Read op i) (Wait op_2) is other e = absurd (apart 344 353 refl (ap word_mark e))
 spell_own (Read op i) (References op_2) is other e = absurd (apart 344 349 refl (ap word_mark e))
 spell_own (Read op i) (Read op_2 i_2) is other e =
     let same = number_then_own op.0 op_2.0 (decimal i) (decimal i_2) is.0 other.0 (append_cancel_left (codes "read ") (decimal op.0 ++ 32 ∷ decimal i) (decimal op_2.0 ++ 32 ∷ decimal i_2) e) in
@@ -278,6 +303,7 @@ spell_own (ReadAll op i) (Load caller_2 all_2 mode_2 kind_2 keys_2) is other e =
 spell_own (ReadAll op i) (Acquire caller_2 op_2) is other e = absurd (apart 409 414 refl (ap word_mark e))
 spell_own (ReadAll op i) (Release caller_2 op_2) is other e = absurd (apart 409 420 refl (ap word_mark e))
 spell_own (ReadAll op i) (Status op_2) is other e = absurd (apart 409 445 refl (ap word_mark e))
+spell_own (ReadAll op i) (Wait op_2) is other e = absurd (apart 409 353 refl (ap word_mark e))
 spell_own (ReadAll op i) (References op_2) is other e = absurd (apart 409 349 refl (ap word_mark e))
 spell_own (ReadAll op i) (Read op_2 i_2) is other e = absurd (apart 409 344 refl (ap word_mark e))
 spell_own (ReadAll op i) (ReadAll op_2 i_2) is other e =
@@ -293,6 +319,7 @@ spell_own (Count b) (Load caller_2 all_2 mode_2 kind_2 keys_2) is other e = absu
 spell_own (Count b) (Acquire caller_2 op_2) is other e = absurd (apart 443 414 refl (ap word_mark e))
 spell_own (Count b) (Release caller_2 op_2) is other e = absurd (apart 443 420 refl (ap word_mark e))
 spell_own (Count b) (Status op_2) is other e = absurd (apart 443 445 refl (ap word_mark e))
+spell_own (Count b) (Wait op_2) is other e = absurd (apart 443 353 refl (ap word_mark e))
 spell_own (Count b) (References op_2) is other e = absurd (apart 443 349 refl (ap word_mark e))
 spell_own (Count b) (Read op_2 i_2) is other e = absurd (apart 443 344 refl (ap word_mark e))
 spell_own (Count b) (ReadAll op_2 i_2) is other e = absurd (apart 443 409 refl (ap word_mark e))
@@ -305,6 +332,7 @@ spell_own Close (Load caller_2 all_2 mode_2 kind_2 keys_2) is other e = absurd (
 spell_own Close (Acquire caller_2 op_2) is other e = absurd (apart 419 414 refl (ap word_mark e))
 spell_own Close (Release caller_2 op_2) is other e = absurd (apart 419 420 refl (ap word_mark e))
 spell_own Close (Status op_2) is other e = absurd (apart 419 445 refl (ap word_mark e))
+spell_own Close (Wait op_2) is other e = absurd (apart 419 353 refl (ap word_mark e))
 spell_own Close (References op_2) is other e = absurd (apart 419 349 refl (ap word_mark e))
 spell_own Close (Read op_2 i_2) is other e = absurd (apart 419 344 refl (ap word_mark e))
 spell_own Close (ReadAll op_2 i_2) is other e = absurd (apart 419 409 refl (ap word_mark e))
@@ -317,6 +345,7 @@ spell_own (Take worker) (Load caller_2 all_2 mode_2 kind_2 keys_2) is other e = 
 spell_own (Take worker) (Acquire caller_2 op_2) is other e = absurd (apart 352 414 refl (ap word_mark e))
 spell_own (Take worker) (Release caller_2 op_2) is other e = absurd (apart 352 420 refl (ap word_mark e))
 spell_own (Take worker) (Status op_2) is other e = absurd (apart 352 445 refl (ap word_mark e))
+spell_own (Take worker) (Wait op_2) is other e = absurd (apart 352 353 refl (ap word_mark e))
 spell_own (Take worker) (References op_2) is other e = absurd (apart 352 349 refl (ap word_mark e))
 spell_own (Take worker) (Read op_2 i_2) is other e = absurd (apart 352 344 refl (ap word_mark e))
 spell_own (Take worker) (ReadAll op_2 i_2) is other e = absurd (apart 352 409 refl (ap word_mark e))
@@ -329,6 +358,7 @@ spell_own (Done worker b) (Load caller_2 all_2 mode_2 kind_2 keys_2) is other e 
 spell_own (Done worker b) (Acquire caller_2 op_2) is other e = absurd (apart 353 414 refl (ap word_mark e))
 spell_own (Done worker b) (Release caller_2 op_2) is other e = absurd (apart 353 420 refl (ap word_mark e))
 spell_own (Done worker b) (Status op_2) is other e = absurd (apart 353 445 refl (ap word_mark e))
+spell_own (Done worker b) (Wait op_2) is other e = absurd (apart 100 119 refl (ap first_byte e))
 spell_own (Done worker b) (References op_2) is other e = absurd (apart 353 349 refl (ap word_mark e))
 spell_own (Done worker b) (Read op_2 i_2) is other e = absurd (apart 353 344 refl (ap word_mark e))
 spell_own (Done worker b) (ReadAll op_2 i_2) is other e = absurd (apart 353 409 refl (ap word_mark e))
@@ -343,6 +373,7 @@ spell_own (Fail worker b cause) (Load caller_2 all_2 mode_2 kind_2 keys_2) is ot
 spell_own (Fail worker b cause) (Acquire caller_2 op_2) is other e = absurd (apart 336 414 refl (ap word_mark e))
 spell_own (Fail worker b cause) (Release caller_2 op_2) is other e = absurd (apart 336 420 refl (ap word_mark e))
 spell_own (Fail worker b cause) (Status op_2) is other e = absurd (apart 336 445 refl (ap word_mark e))
+spell_own (Fail worker b cause) (Wait op_2) is other e = absurd (apart 336 353 refl (ap word_mark e))
 spell_own (Fail worker b cause) (References op_2) is other e = absurd (apart 336 349 refl (ap word_mark e))
 spell_own (Fail worker b cause) (Read op_2 i_2) is other e = absurd (apart 336 344 refl (ap word_mark e))
 spell_own (Fail worker b cause) (ReadAll op_2 i_2) is other e = absurd (apart 336 409 refl (ap word_mark e))
@@ -357,13 +388,18 @@ spell_own (Fail worker b cause) (Fail worker_2 b_2 cause_2) is other e =
     let more = bundle_then_own b b_2 (cause_text cause) (cause_text cause_2) is.1 other.1 same.1 in
     cc (same.0, more.0, cause_own cause cause_2 is.2 other.2 more.1)
 
-commands_own : (commands others : List Command) → AllByRecursion IsCommand commands → AllByRecursion IsCommand others → map spell commands ≡ map spell others → commands ≡ others
-commands_own [] [] each other e = refl
-commands_own [] (b ∷ others) each other e = cc
-commands_own (a ∷ commands) [] each other e = cc
-commands_own (a ∷ commands) (b ∷ others) each other e =
-    let head = spell_own a b each.0 other.0 (cc) in
-    let rest = commands_own commands others each.1 other.1 (cc) in cc (head, rest)
+-- a line that spells a command which such a script may not have, or none, spells none that it may
+pub taken_or_none : (g : Grammar) (line : List ℕ) (command : Command) (found : Option Command) → Spells line command → MatchOption found (takes g command ≡ false) (λ c. (c ≡ command) × (takes g command ≡ true)) → MatchOption found (IsNone g line) (λ c. IsOf g c × (line ≡ spell c))
+taken_or_none g line command None is never = λ c of e. let same : c ≡ command = spell_own c command of.0 is.0 (sym e ∙ is.1) in false≢true (sym never ∙ (ap (λ z. takes g z) (sym same) ∙ of.1))
+taken_or_none g line command (Some c) is took = let s : command ≡ c = sym took.0 in ((subst (λ z. IsCommand z) s is.0, subst (λ z. takes g z ≡ true) s took.1), is.1 ∙ ap spell s)
+
+commands_own : (g : Grammar) → (commands others : List Command) → AllByRecursion (IsOf g) commands → AllByRecursion (IsOf g) others → map spell commands ≡ map spell others → commands ≡ others
+commands_own g [] [] each other e = refl
+commands_own g [] (b ∷ others) each other e = cc
+commands_own g (a ∷ commands) [] each other e = cc
+commands_own g (a ∷ commands) (b ∷ others) each other e =
+    let head = spell_own a b each.0.0 other.0.0 (cc) in
+    let rest = commands_own g commands others each.1 other.1 (cc) in cc (head, rest)
 
 limit_own : (n m : ℕ) → IsLimit n → IsLimit m → codes "limit " ++ decimal n ≡ codes "limit " ++ decimal m → n ≡ m
 limit_own n m is other e = number_own n m (omega (arith, is.1)) (omega (arith, other.1)) (append_cancel_left (codes "limit ") (decimal n) (decimal m) e)
@@ -377,31 +413,31 @@ set_own v w is other e =
     same_var : (a b : Var) → a.name ≡ b.name → a.value ≡ b.value → a ≡ b
     same_var a b names values = λ i. record { name = names i; value = values i }
 
-body_own : (vars others : List Var) (commands more : List Command) → AllByRecursion IsSet vars → AllByRecursion IsSet others → AllByRecursion IsCommand commands → AllByRecursion IsCommand more → body_lines vars commands ≡ body_lines others more → (vars ≡ others) × (commands ≡ more)
-body_own [] [] commands more sets also each other e = (refl, commands_own commands more each other e)
-body_own [] (w ∷ others) [] more sets also each other e = cc
-body_own [] (w ∷ others) (c ∷ commands) more sets also each other e = absurd (no_set_line c w (cc))
-body_own (v ∷ vars) [] commands [] sets also each other e = cc
-body_own (v ∷ vars) [] commands (c ∷ more) sets also each other e = absurd (no_set_line c v (cc))
-body_own (v ∷ vars) (w ∷ others) commands more sets also each other e =
+body_own : (g : Grammar) → (vars others : List Var) (commands more : List Command) → AllByRecursion IsSet vars → AllByRecursion IsSet others → AllByRecursion (IsOf g) commands → AllByRecursion (IsOf g) more → body_lines vars commands ≡ body_lines others more → (vars ≡ others) × (commands ≡ more)
+body_own g [] [] commands more sets also each other e = (refl, commands_own g commands more each other e)
+body_own g [] (w ∷ others) [] more sets also each other e = cc
+body_own g [] (w ∷ others) (c ∷ commands) more sets also each other e = absurd (no_set_line c w (cc))
+body_own g (v ∷ vars) [] commands [] sets also each other e = cc
+body_own g (v ∷ vars) [] commands (c ∷ more) sets also each other e = absurd (no_set_line c v (cc))
+body_own g (v ∷ vars) (w ∷ others) commands more sets also each other e =
     let head = set_own v w sets.0 also.0 (cc) in
-    let rest = body_own vars others commands more sets.1 also.1 each other (cc) in
+    let rest = body_own g vars others commands more sets.1 also.1 each other (cc) in
     (cc (head, rest.0), rest.1)
 
 same_script : (a b : Option ℕ) (vars others : List Var) (commands more : List Command) → a ≡ b → vars ≡ others → commands ≡ more → ◌≡◌ {A = Script} (record { limit = a; vars = vars; commands = commands }) (record { limit = b; vars = others; commands = more })
 same_script a b vars others commands more limits sets same = rw (limits, sets, same)
 
-parts_own : (a b : Option ℕ) (vars others : List Var) (commands more : List Command) → IfSome a IsLimit → IfSome b IsLimit → AllByRecursion IsSet vars → AllByRecursion IsSet others → AllByRecursion IsCommand commands → AllByRecursion IsCommand more → limit_lines a ++ body_lines vars commands ≡ limit_lines b ++ body_lines others more → (a ≡ b) × (body_lines vars commands ≡ body_lines others more)
-parts_own None None vars others commands more small_a small_b sets also each other e = (refl, e)
-parts_own None (Some m) vars others commands more small_a small_b sets also each other e = absurd (no_limit_first vars commands m (body_lines others more) e)
-parts_own (Some n) None vars others commands more small_a small_b sets also each other e = absurd (no_limit_first others more n (body_lines vars commands) (sym e))
-parts_own (Some n) (Some m) vars others commands more small_a small_b sets also each other e =
+parts_own : (g : Grammar) → (a b : Option ℕ) (vars others : List Var) (commands more : List Command) → IfSome a IsLimit → IfSome b IsLimit → AllByRecursion IsSet vars → AllByRecursion IsSet others → AllByRecursion (IsOf g) commands → AllByRecursion (IsOf g) more → limit_lines a ++ body_lines vars commands ≡ limit_lines b ++ body_lines others more → (a ≡ b) × (body_lines vars commands ≡ body_lines others more)
+parts_own g None None vars others commands more small_a small_b sets also each other e = (refl, e)
+parts_own g None (Some m) vars others commands more small_a small_b sets also each other e = absurd (no_limit_first vars commands m (body_lines others more) e)
+parts_own g (Some n) None vars others commands more small_a small_b sets also each other e = absurd (no_limit_first others more n (body_lines vars commands) (sym e))
+parts_own g (Some n) (Some m) vars others commands more small_a small_b sets also each other e =
     let first : codes "limit " ++ decimal n ≡ codes "limit " ++ decimal m = cc in
     let rest : body_lines vars commands ≡ body_lines others more = cc in
     (ap Some (limit_own n m small_a small_b first), rest)
 
-pub own_script : (lines : List (List ℕ)) (s t : Script) → IsScript lines s → IsScript lines t → s ≡ t
-own_script lines s t is other =
-    let parts = parts_own s.limit t.limit s.vars t.vars s.commands t.commands is.limit other.limit is.vars other.vars is.commands other.commands (sym is.spelled ∙ other.spelled) in
-    let same = body_own s.vars t.vars s.commands t.commands is.vars other.vars is.commands other.commands parts.1 in
+pub own_script : (g : Grammar) → (lines : List (List ℕ)) (s t : Script) → IsScript g lines s → IsScript g lines t → s ≡ t
+own_script g lines s t is other =
+    let parts = parts_own g s.limit t.limit s.vars t.vars s.commands t.commands is.limit other.limit is.vars other.vars is.commands other.commands (sym is.spelled ∙ other.spelled) in
+    let same = body_own g s.vars t.vars s.commands t.commands is.vars other.vars is.commands other.commands parts.1 in
     same_script s.limit t.limit s.vars t.vars s.commands t.commands parts.0 same.0 same.1

@@ -4,14 +4,15 @@ use Rattle.std.specs.List.{AllByRecursion}
 use Rattle.std.proofs.lemmas.Bool.{false≢true}
 use Rattle.std.proofs.lemmas.List.{length-map, take_at, take-append-drop, length-take-le}
 use Rattle.addr_base.specs.declared.var.Var.{Var}
-use Rattle.addr_script.specs.Commands.{set_line, spell, IsCommand, IsSet, ReadsCommand, ReadsSet}
+use Rattle.addr_script.specs.Commands.{set_line, spell, IsNone, IsOf, IsSet, ReadsSet}
 use Rattle.addr_fields.specs.Lines.{lines_of}
 use Rattle.addr_script.specs.ScriptParts.{AreCommands, BeginsScript, IsBadFrom, HasLimit, HasSets, ReadsFrom}
 use Rattle.addr_script.specs.Scripts.{body_lines, IsScript, IsFirstBad, IsLimit, ReadsScript, limit_lines}
 use Rattle.addr_script.specs.declared.error.ScriptErr.{ScriptErr}
 use Rattle.addr_script.specs.declared.error.ScriptErr.TheVariants.{Line, NoMemory}
 use Rattle.addr_script.specs.declared.command.Command.{Command}
-use Rattle.addr_script.specs.declared.command.Command.TheVariants.{Load, Acquire, Release, Status, References, Read, ReadAll, Count, Close, Take, Done, Fail}
+use Rattle.addr_script.specs.declared.command.Grammar.{Grammar}
+use Rattle.addr_script.specs.declared.command.Command.TheVariants.{Load, Acquire, Release, Status, Wait, References, Read, ReadAll, Count, Close, Take, Done, Fail}
 use Rattle.addr_script.proofs.KeyLemmas.{image_at}
 
 -- no command and no line that sets a variable is spelled as a limit, and no command as such a line
@@ -20,6 +21,7 @@ no_limit_line (Load caller all mode kind keys) n e = let same : 111 ≡ 105 = cc
 no_limit_line (Acquire caller op) n e = let same : 97 ≡ 108 = cc in let wrong : false ≡ true = ap (λ x. x == 108) same in false≢true wrong
 no_limit_line (Release caller op) n e = let same : 114 ≡ 108 = cc in let wrong : false ≡ true = ap (λ x. x == 108) same in false≢true wrong
 no_limit_line (Status op) n e = let same : 115 ≡ 108 = cc in let wrong : false ≡ true = ap (λ x. x == 108) same in false≢true wrong
+no_limit_line (Wait op) n e = let same : 119 ≡ 108 = cc in let wrong : false ≡ true = ap (λ x. x == 108) same in false≢true wrong
 no_limit_line (References op) n e = let same : 114 ≡ 108 = cc in let wrong : false ≡ true = ap (λ x. x == 108) same in false≢true wrong
 no_limit_line (Read op i) n e = let same : 114 ≡ 108 = cc in let wrong : false ≡ true = ap (λ x. x == 108) same in false≢true wrong
 no_limit_line (ReadAll op i) n e = let same : 114 ≡ 108 = cc in let wrong : false ≡ true = ap (λ x. x == 108) same in false≢true wrong
@@ -37,6 +39,7 @@ no_set_line (Load caller all mode kind keys) v e = let same : 108 ≡ 115 = cc i
 no_set_line (Acquire caller op) v e = let same : 97 ≡ 115 = cc in let wrong : false ≡ true = ap (λ x. x == 115) same in false≢true wrong
 no_set_line (Release caller op) v e = let same : 114 ≡ 115 = cc in let wrong : false ≡ true = ap (λ x. x == 115) same in false≢true wrong
 no_set_line (Status op) v e = let same : 116 ≡ 101 = cc in let wrong : false ≡ true = ap (λ x. x == 101) same in false≢true wrong
+no_set_line (Wait op) v e = let same : 119 ≡ 115 = cc in let wrong : false ≡ true = ap (λ x. x == 115) same in false≢true wrong
 no_set_line (References op) v e = let same : 114 ≡ 115 = cc in let wrong : false ≡ true = ap (λ x. x == 115) same in false≢true wrong
 no_set_line (Read op i) v e = let same : 114 ≡ 115 = cc in let wrong : false ≡ true = ap (λ x. x == 115) same in false≢true wrong
 no_set_line (ReadAll op i) v e = let same : 114 ≡ 115 = cc in let wrong : false ≡ true = ap (λ x. x == 115) same in false≢true wrong
@@ -52,15 +55,15 @@ no_limit_first [] (command ∷ commands) n more e = no_limit_line command n (cc)
 no_limit_first (v ∷ vars) commands n more e = no_limit_set v n (cc)
 
 -- lines that a line follows that is none's are no script's
-no_body : (vars vars' : List Var) (commands commands' : List Command) (line : List ℕ) → AllByRecursion IsSet vars' → AllByRecursion IsCommand commands' → ReadsCommand line None → (commands ≡ [] → ReadsSet line None) → body_lines vars' commands' ≡ body_lines vars commands ++ line ∷ [] → ⊥
-no_body (v ∷ vars) (w ∷ vars') commands commands' line sets each none first e = no_body vars vars' commands commands' line sets.1 each none first (cc)
-no_body (v ∷ vars) [] commands [] line sets each none first e = cc
-no_body (v ∷ vars) [] commands (c ∷ commands') line sets each none first e = no_set_line c v (cc)
-no_body [] (w ∷ vars') [] commands' line sets each none first e = first refl w sets.0 (cc)
-no_body [] (w ∷ vars') (c ∷ commands) commands' line sets each none first e = no_set_line c w (cc)
-no_body [] [] commands commands' line sets each none first e =
-    let found = image_at spell IsCommand commands' each (map spell commands) line [] e in
-    none found.0 (found.1, found.2)
+no_body : (g : Grammar) → (vars vars' : List Var) (commands commands' : List Command) (line : List ℕ) → AllByRecursion IsSet vars' → AllByRecursion (IsOf g) commands' → IsNone g line → (commands ≡ [] → ReadsSet line None) → body_lines vars' commands' ≡ body_lines vars commands ++ line ∷ [] → ⊥
+no_body g (v ∷ vars) (w ∷ vars') commands commands' line sets each none first e = no_body g vars vars' commands commands' line sets.1 each none first (cc)
+no_body g (v ∷ vars) [] commands [] line sets each none first e = cc
+no_body g (v ∷ vars) [] commands (c ∷ commands') line sets each none first e = no_set_line c v (cc)
+no_body g [] (w ∷ vars') [] commands' line sets each none first e = first refl w sets.0 (cc)
+no_body g [] (w ∷ vars') (c ∷ commands) commands' line sets each none first e = no_set_line c w (cc)
+no_body g [] [] commands commands' line sets each none first e =
+    let found = image_at spell (IsOf g) commands' each (map spell commands) line [] e in
+    none found.0 found.1 found.2
 
 -- two ways to begin the same lines name the same lines behind the limit
 same_rest : (ours theirs : Option ℕ) (lines rest read : List (List ℕ)) (vars : List Var) (commands : List Command) (k : ℕ) → HasLimit lines ours rest → IfSome theirs IsLimit → take k lines ≡ limit_lines ours ++ read → take k lines ≡ limit_lines theirs ++ body_lines vars commands → body_lines vars commands ≡ read
@@ -82,8 +85,8 @@ placed lines ahead limits read line after n parts split place =
 body_length : (vars : List Var) (commands : List Command) → length (body_lines vars commands) ≡ length vars + length commands
 body_length vars commands = omega (arith, length-append (map set_line vars) (map spell commands), length-map vars set_line, length-map commands spell)
 
-pub first_bad : (lines rest more : List (List ℕ)) (limit : Option ℕ) (vars : List Var) (next n : ℕ) → HasLimit lines limit rest → HasSets rest (1 + length (limit_lines limit)) vars more next → IsBadFrom more next n → IsFirstBad lines n
-first_bad lines rest more limit vars next n has sets wrong =
+pub first_bad : (g : Grammar) → (lines rest more : List (List ℕ)) (limit : Option ℕ) (vars : List Var) (next n : ℕ) → HasLimit lines limit rest → HasSets rest (1 + length (limit_lines limit)) vars more next → IsBadFrom g more next n → IsFirstBad g lines n
+first_bad g lines rest more limit vars next n has sets wrong =
     let body = body_lines vars wrong.commands in
     let ahead = limit_lines limit ++ body in
     let behind : rest ≡ body ++ wrong.line ∷ wrong.after = sets.whole ∙ ap (λ r. map set_line vars ++ r) wrong.split ∙ sym (append_assoc (map set_line vars) (map spell wrong.commands) (wrong.line ∷ wrong.after)) in
@@ -98,7 +101,7 @@ first_bad lines rest more limit vars next n has sets wrong =
           let counted : length (take n lines) ≡ n = length-take-le n lines there.0 in
           let few : n ≤ 100000 = omega (arith, is.few, counted) in
           let same = same_rest limit script.limit lines rest (body ++ wrong.line ∷ []) script.vars script.commands n has is.limit there.2 is.spelled in
-          no_body vars script.vars wrong.commands script.commands wrong.line is.vars is.commands (wrong.wrong few) (no_set few) same;
+          no_body g vars script.vars wrong.commands script.commands wrong.line is.vars is.commands (wrong.wrong few) (no_set few) same;
     }
   where
     no_set : n ≤ 100000 → wrong.commands ≡ [] → ReadsSet wrong.line None
@@ -106,17 +109,17 @@ first_bad lines rest more limit vars next n has sets wrong =
         let early : next ≤ 100000 = omega (arith, wrong.place, ap length none, few) in
         sets.none early v wrong.after is (wrong.split ∙ ap (λ (cs : List Command). map spell cs ++ wrong.line ∷ wrong.after) none ∙ ap (λ l. l ∷ wrong.after) e)
 
-pub script_read : (lines rest more : List (List ℕ)) (limit : Option ℕ) (vars : List Var) (next : ℕ) (commands : List Command) → HasLimit lines limit rest → HasSets rest (1 + length (limit_lines limit)) vars more next → AreCommands more commands → next + length commands ≤ 100001 → IsScript lines (record { limit = limit; vars = vars; commands = commands })
-script_read lines rest more limit vars next commands has sets are small =
+pub script_read : (g : Grammar) → (lines rest more : List (List ℕ)) (limit : Option ℕ) (vars : List Var) (next : ℕ) (commands : List Command) → HasLimit lines limit rest → HasSets rest (1 + length (limit_lines limit)) vars more next → AreCommands g more commands → next + length commands ≤ 100001 → IsScript g lines (record { limit = limit; vars = vars; commands = commands })
+script_read g lines rest more limit vars next commands has sets are small =
     let whole : lines ≡ limit_lines limit ++ body_lines vars commands = has.whole ∙ ap (λ r. limit_lines limit ++ r) (sets.whole ∙ ap (λ r. map set_line vars ++ r) are.spelled) in
     let long : length lines ≡ length (limit_lines limit) + (length vars + length commands) = ap length whole ∙ length-append (limit_lines limit) (body_lines vars commands) ∙ ap (λ k. length (limit_lines limit) + k) (body_length vars commands) in
     record { spelled = whole; limit = has.small; vars = sets.each; commands = are.each; few = omega (arith, long, sets.place, small) }
 
-pub script_err : (bytes rest more : List ℕ) (limit : Option ℕ) (vars : List Var) (next : ℕ) (e : ScriptErr) → HasLimit (lines_of bytes) limit (lines_of rest) → HasSets (lines_of rest) (1 + length (limit_lines limit)) vars (lines_of more) next → ReadsFrom more next (Err e) → ReadsScript bytes (Err e)
-script_err bytes rest more limit vars next (Line n) has sets wrong = first_bad (lines_of bytes) (lines_of rest) (lines_of more) limit vars next n has sets wrong
-script_err bytes rest more limit vars next NoMemory has sets wrong = tt
+pub script_err : (g : Grammar) → (bytes rest more : List ℕ) (limit : Option ℕ) (vars : List Var) (next : ℕ) (e : ScriptErr) → HasLimit (lines_of bytes) limit (lines_of rest) → HasSets (lines_of rest) (1 + length (limit_lines limit)) vars (lines_of more) next → ReadsFrom g more next (Err e) → ReadsScript g bytes (Err e)
+script_err g bytes rest more limit vars next (Line n) has sets wrong = first_bad g (lines_of bytes) (lines_of rest) (lines_of more) limit vars next n has sets wrong
+script_err g bytes rest more limit vars next NoMemory has sets wrong = tt
 
 -- a head, and whatever is read behind it
 pub begins : (bytes rest more : List ℕ) (limit : Option ℕ) (vars : List Var) (next : ℕ) → HasLimit (lines_of bytes) limit (lines_of rest) → HasSets (lines_of rest) (1 + length (limit_lines limit)) vars (lines_of more) next → BeginsScript bytes limit vars more next
-begins bytes rest more limit vars next has sets (Ok commands) read = script_read (lines_of bytes) (lines_of rest) (lines_of more) limit vars next commands has sets read.0 read.1
-begins bytes rest more limit vars next has sets (Err e) read = script_err bytes rest more limit vars next e has sets read
+begins bytes rest more limit vars next has sets g (Ok commands) read = script_read g (lines_of bytes) (lines_of rest) (lines_of more) limit vars next commands has sets read.0 read.1
+begins bytes rest more limit vars next has sets g (Err e) read = script_err g bytes rest more limit vars next e has sets read

@@ -1,5 +1,5 @@
 -- The commands of a script, each as the one line that spells it. One space (32) parts the fields of a line.
-use Rattle.std.specs.Prelude.{ℕ, ◌≡◌, ◌≢◌, ◌<◌, ◌^◌, Bool, true, false, List, [], ◌∷◌, ◌++◌, Option, Some, None, map, length, codes, decimal}
+use Rattle.std.specs.Prelude.{ℕ, ◌≡◌, ◌≢◌, ◌<◌, ◌^◌, ◌==◌, Bool, true, false, List, [], ◌∷◌, ◌++◌, Option, Some, None, map, length, codes, decimal}
 use Rattle.std.specs.List.{AllByRecursion, join_with_byte}
 use Rattle.std.specs.Str.{IsUtf8}
 use Rattle.addr_base.specs.Tokens.{token_of}
@@ -8,7 +8,9 @@ use Rattle.addr_locate.specs.declared.rows.Merge.{Merge}
 use Rattle.addr_locate.specs.declared.rows.Merge.TheVariants.{UseFirst, Union, Intersection}
 use Rattle.addr_script.specs.Causes.{cause_text, IsGivenCause}
 use Rattle.addr_script.specs.declared.command.Command.{Command}
-use Rattle.addr_script.specs.declared.command.Command.TheVariants.{Load, Acquire, Release, Status, References, Read, ReadAll, Count, Close, Take, Done, Fail}
+use Rattle.addr_script.specs.declared.command.Grammar.{Grammar}
+use Rattle.addr_script.specs.declared.command.Grammar.TheVariants.{Simulate, Load as Live}
+use Rattle.addr_script.specs.declared.command.Command.TheVariants.{Load, Acquire, Release, Status, Wait, References, Read, ReadAll, Count, Close, Take, Done, Fail}
 
 abbrev pub one_or_all : Bool → List ℕ
 one_or_all false = codes "one"
@@ -33,6 +35,7 @@ spell (Load caller all mode kind keys) = codes "load " ++ (decimal caller ++ 32 
 spell (Acquire caller op) = codes "acquire " ++ (decimal caller ++ 32 ∷ decimal op.0)
 spell (Release caller op) = codes "release " ++ (decimal caller ++ 32 ∷ decimal op.0)
 spell (Status op) = codes "status " ++ decimal op.0
+spell (Wait op) = codes "wait " ++ decimal op.0
 spell (References op) = codes "refs " ++ decimal op.0
 spell (Read op i) = codes "read " ++ (decimal op.0 ++ 32 ∷ decimal i)
 spell (ReadAll op i) = codes "readall " ++ (decimal op.0 ++ 32 ∷ decimal i)
@@ -61,6 +64,7 @@ IsCommand (Load caller all mode kind keys) = (caller < 2 ^ 32) × IsKind kind ×
 IsCommand (Acquire caller op) = (caller < 2 ^ 32) × (op.0 < 2 ^ 32)
 IsCommand (Release caller op) = (caller < 2 ^ 32) × (op.0 < 2 ^ 32)
 IsCommand (Status op) = op.0 < 2 ^ 32
+IsCommand (Wait op) = op.0 < 2 ^ 32
 IsCommand (References op) = op.0 < 2 ^ 32
 IsCommand (Read op i) = (op.0 < 2 ^ 32) × (i < 2 ^ 32)
 IsCommand (ReadAll op i) = (op.0 < 2 ^ 32) × (i < 2 ^ 32)
@@ -90,3 +94,41 @@ Spells line command = IsCommand command × (line ≡ spell command)
 abbrev pub ReadsCommand : List ℕ → Option Command → Type 0
 ReadsCommand line (Some command) = Spells line command
 ReadsCommand line None = (command : Command) → Spells line command → ⊥
+
+-- which commands a script may have: one that a thread plays alone doesn't wait, and one beside workers has the caller 0 and leaves
+-- their part to them
+abbrev pub takes : Grammar → Command → Bool
+takes Simulate (Load caller all mode kind keys) = true
+takes Simulate (Acquire caller op) = true
+takes Simulate (Release caller op) = true
+takes Simulate (Status op) = true
+takes Simulate (Wait op) = false
+takes Simulate (References op) = true
+takes Simulate (Read op i) = true
+takes Simulate (ReadAll op i) = true
+takes Simulate (Count b) = true
+takes Simulate Close = true
+takes Simulate (Take worker) = true
+takes Simulate (Done worker b) = true
+takes Simulate (Fail worker b cause) = true
+takes Live (Load caller all mode kind keys) = caller == 0
+takes Live (Acquire caller op) = caller == 0
+takes Live (Release caller op) = caller == 0
+takes Live (Status op) = true
+takes Live (Wait op) = true
+takes Live (References op) = true
+takes Live (Read op i) = true
+takes Live (ReadAll op i) = true
+takes Live (Count b) = true
+takes Live Close = true
+takes Live (Take worker) = false
+takes Live (Done worker b) = false
+takes Live (Fail worker b cause) = false
+
+-- a command of such a script
+abbrev pub IsOf : Grammar → Command → Type 0
+IsOf g command = IsCommand command × (takes g command ≡ true)
+
+-- the line is of no such script
+abbrev pub IsNone : Grammar → List ℕ → Type 0
+IsNone g line = (command : Command) → IsOf g command → line ≡ spell command → ⊥

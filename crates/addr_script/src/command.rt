@@ -1,5 +1,9 @@
 // What a script asks for, line by line. A command is plain data, so that definitions over scripts need no second set of
-// records.
+// records. Which commands a script may have differs by who plays it.
+ghost use Rattle.std.specs.Prelude.{◌≡◌};
+ghost use Rattle.addr_script.specs.Commands.{takes};
+ghost use Rattle.addr_script.specs.declared.command.Grammar.TheVariants.{Simulate, Load as Live};
+
 use addr_base::{BundleNo, Cause, Items, OpId, Text};
 use addr_locate::Merge;
 
@@ -26,6 +30,8 @@ pub enum Command {
         op: OpId,
     },
     Status(OpId),
+    /// How far an operation is, once it is no longer pending. Only where workers play a part.
+    Wait(OpId),
     /// How many references an operation has.
     References(OpId),
     /// The bytes of the asset that an operation's i-th row is.
@@ -52,4 +58,48 @@ pub enum Command {
         b: BundleNo,
         cause: Cause,
     },
+}
+
+/// Who plays a script, which says which commands it may have.
+#[derive(Clone, Copy)]
+pub enum Grammar {
+    /// One thread plays all: the workers' commands stand in the script, and nothing is waited for.
+    Simulate,
+    /// Workers run beside the script, which has one caller, 0.
+    Load,
+}
+
+impl Grammar {
+    /// Whether a script may have the command.
+    pub fn takes(self, command: &Command) -> bool
+        ensures { result ≡ takes self command.now }
+    {
+        match self {
+            Grammar::Simulate => is_simulated(command),
+            Grammar::Load => is_live(command),
+        }
+    }
+}
+
+fn is_simulated(command: &Command) -> bool
+    ensures { result ≡ takes Simulate command.now }
+{
+    match command {
+        Command::Wait(_) => false,
+        _ => true,
+    }
+}
+
+fn is_live(command: &Command) -> bool
+    ensures { result ≡ takes Live command.now }
+{
+    match command {
+        Command::Load { caller, .. } => *caller == 0,
+        Command::Acquire { caller, .. } => *caller == 0,
+        Command::Release { caller, .. } => *caller == 0,
+        Command::Take { .. } => false,
+        Command::Done { .. } => false,
+        Command::Fail { .. } => false,
+        _ => true,
+    }
 }

@@ -17,7 +17,7 @@ mod set_line;
 mod shown;
 mod words;
 
-pub use command::Command;
+pub use command::{Command, Grammar};
 pub use error::ScriptErr;
 pub use keys::key_list;
 pub use laws::script_laws;

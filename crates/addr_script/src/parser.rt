@@ -6,7 +6,7 @@ ghost use Rattle.addr_base.specs.declared.ids.BundleNo.{BundleNo};
 ghost use Rattle.addr_base.specs.declared.ids.OpId.{OpId};
 ghost use Rattle.addr_script.specs.Causes.{cause_text, IsGivenCause};
 ghost use Rattle.addr_script.specs.Commands.{ReadsCommand, Spells};
-ghost use Rattle.addr_script.specs.declared.command.Command.TheVariants.{Acquire, Release, Status, References, Read, ReadAll, Count, Close, Take, Done, Fail};
+ghost use Rattle.addr_script.specs.declared.command.Command.TheVariants.{Acquire, Release, Status, Wait, References, Read, ReadAll, Count, Close, Take, Done, Fail};
 
 use crate::command::Command;
 use crate::loads::load;
@@ -29,11 +29,12 @@ pub fn parse_command(alloc: Global, line: &[u8]) -> Result<Option<Command>, NoMe
     }
 }
 
-/// `status`, `refs`, `read`, `readall`, `count` and `close`.
+/// `status`, `wait`, `refs`, `read`, `readall`, `count` and `close`.
 fn question(line: &[u8]) -> Option<Command>
     ensures found { IfSome result (λ command. Spells line.now command) }
     ensures close { IsNone result → Spells line.now Close → ⊥ }
     ensures status { IsNone result → (op : OpId) → Spells line.now (Status op) → ⊥ }
+    ensures wait { IsNone result → (op : OpId) → Spells line.now (Wait op) → ⊥ }
     ensures references { IsNone result → (op : OpId) → Spells line.now (References op) → ⊥ }
     ensures read { IsNone result → (op : OpId) (i : ℕ) → Spells line.now (Read op i) → ⊥ }
     ensures read_all { IsNone result → (op : OpId) (i : ℕ) → Spells line.now (ReadAll op i) → ⊥ }
@@ -44,6 +45,9 @@ fn question(line: &[u8]) -> Option<Command>
     }
     if let Some(op) = number_after(line, b"status ") {
         return Some(Command::Status(OpId(op)));
+    }
+    if let Some(op) = number_after(line, b"wait ") {
+        return Some(Command::Wait(OpId(op)));
     }
     if let Some(op) = number_after(line, b"refs ") {
         return Some(Command::References(OpId(op)));

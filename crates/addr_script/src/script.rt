@@ -1,12 +1,12 @@
 // A script, line by line from the front. The first line that isn't in the grammar at its place ends the reading.
-ghost use Rattle.std.specs.Prelude.{◌≡◌, ◌<◌, ◌≤◌, ◌+◌, ◌∷◌, [], ◌↔◌, ℕ, List, IsTrue, MatchOption, IfErr, IfOk, IfSome, Some, length};
+ghost use Rattle.std.specs.Prelude.{◌≡◌, ◌<◌, ◌≤◌, ◌+◌, ◌∷◌, [], ◌↔◌, ℕ, List, IsTrue, MatchOption, IfErr, IfOk, IfSome, Some, length, true, false};
 ghost use Rattle.addr_fields.specs.Lines.{lines_of};
 ghost use Rattle.addr_base.specs.declared.var.Var.{Var};
-ghost use Rattle.addr_script.specs.Commands.{set_line, IsSet};
+ghost use Rattle.addr_script.specs.Commands.{set_line, spell, takes, IsNone, IsOf, IsSet};
 ghost use Rattle.addr_script.specs.ScriptParts.{BeginsScript, HasLimit, HasSets, IsBadNext, IsNextCommand};
 ghost use Rattle.addr_script.specs.Scripts.{IsLimit, limit_lines};
 
-use crate::command::Command;
+use crate::command::{Command, Grammar};
 use crate::error::ScriptErr;
 use crate::parser::parse_command;
 use crate::set_line::parse_set;
@@ -132,16 +132,17 @@ fn next_set(alloc: Global, bytes: &[u8], number: u32) -> Result<Option<(Var, &[u
     }
 }
 
-/// The command of the first of some lines, which has that number in the script, and the bytes behind its line; None where no
-/// line is left.
+/// The command of the first of some lines, which has that number in a script of that kind, and the bytes behind its line; None
+/// where no line is left.
 pub fn next_command(
     alloc: Global,
+    grammar: Grammar,
     bytes: &[u8],
     number: u32,
 ) -> Result<Option<(Command, &[u8])>, ScriptErr>
     ensures found { IfOk result (λ found. MatchOption found (bytes.now ≡ [])
-        (λ p. IsNextCommand bytes.now number p.0 p.1.now)) }
-    ensures refused { IfErr result (IsBadNext bytes.now number) }
+        (λ p. IsNextCommand grammar bytes.now number p.0 p.1.now)) }
+    ensures refused { IfErr result (IsBadNext grammar bytes.now number) }
 {
     let Some((line, after)) = next_line(bytes) else {
         return Ok(None);
@@ -149,8 +150,29 @@ pub fn next_command(
     if number > MAX_LINES {
         return Err(ScriptErr::Line(number));
     }
-    match parse_command(alloc, line)? {
+    match command_of(alloc, grammar, line)? {
         Some(command) => Ok(Some((command, after))),
         None => Err(ScriptErr::Line(number)),
+    }
+}
+
+/// The command that the line spells, where a script of that kind may have it.
+fn command_of(alloc: Global, grammar: Grammar, line: &[u8]) -> Result<Option<Command>, NoMemory>
+    ensures { IfOk result (λ found. MatchOption found (IsNone grammar line.now)
+        (λ command. IsOf grammar command × (line.now ≡ spell command))) }
+{
+    match parse_command(alloc, line)? {
+        Some(command) => Ok(taken(grammar, command)),
+        None => Ok(None),
+    }
+}
+
+fn taken(grammar: Grammar, command: Command) -> Option<Command>
+    ensures { MatchOption result (takes grammar command ≡ false) (λ c. (c ≡ command) × (takes grammar command ≡ true)) }
+{
+    if grammar.takes(&command) {
+        Some(command)
+    } else {
+        None
     }
 }

@@ -9,9 +9,10 @@ use Rattle.addr_fields.specs.Lines.{lines_of}
 use Rattle.addr_locate.specs.Rows.{Rows}
 use Rattle.addr_history.specs.declared.event.Event.{Event}
 use Rattle.addr_core.specs.Machine.{Machine}
-use Rattle.addr_script.specs.Commands.{spell, IsCommand}
+use Rattle.addr_script.specs.Commands.{spell, IsOf}
 use Rattle.addr_script.specs.ScriptParts.{BeginsScript, IsBadNext, IsNextCommand}
 use Rattle.addr_script.specs.declared.command.Command.{Command}
+use Rattle.addr_script.specs.declared.command.Grammar.TheVariants.{Simulate}
 use Rattle.addr_script.specs.declared.error.ScriptErr.{ScriptErr}
 use Rattle.addr_script.specs.declared.error.ScriptErr.TheVariants.{Line, NoMemory}
 use Rattle.addr_simulate.specs.SimText.{PlaysAs, SimText, SimulatesScript}
@@ -21,7 +22,7 @@ use Rattle.addr_simulate.proofs.PlayLemmas.{steady_line, text_step}
 pub record SoFar {I : Type 0} (rows : Rows) (limit : ℕ) (bytes : List ℕ) (first : ℕ) (core : Machine I) (text rest : List ℕ) (number : ℕ) : Type 0 where
   pub commands : List Command
   pub read : lines_of bytes ≡ map spell commands ++ lines_of rest
-  pub each : AllByRecursion IsCommand commands
+  pub each : AllByRecursion (IsOf Simulate) commands
   pub place : number ≡ first + length commands
   pub few : number ≤ 100001
   pub whole : (later : List Command) (more : List ℕ) → SimText rows limit core.history later more → SimText rows limit [] (commands ++ later) (text ++ more)
@@ -40,12 +41,12 @@ none_yet rows limit bytes first core few empty rows_stay limit_stays = record {
   limit_stays = limit_stays;
 }
 
-each_more : (commands : List Command) (command : Command) → AllByRecursion IsCommand commands → IsCommand command → AllByRecursion IsCommand (commands ++ command ∷ [])
+each_more : (commands : List Command) (command : Command) → AllByRecursion (IsOf Simulate) commands → IsOf Simulate command → AllByRecursion (IsOf Simulate) (commands ++ command ∷ [])
 each_more [] command each is = (is, tt)
 each_more (c ∷ commands) command each is = (each.0, each_more commands command each.1 is)
 
 pub one_more_line : {I : Type 0} (rows : Rows) (limit : ℕ) (bytes : List ℕ) (first : ℕ) (core new : Machine I) (text text_after rest after : List ℕ) (number : ℕ) (command : Command)
-    → SoFar rows limit bytes first core text rest number → IsNextCommand rest number command after → PlaysAs core command text new text_after
+    → SoFar rows limit bytes first core text rest number → IsNextCommand Simulate rest number command after → PlaysAs core command text new text_after
     → SoFar rows limit bytes first new text_after after (number + 1)
 one_more_line rows limit bytes first core new text text_after rest after number command so next (reply, plays, written) = record {
   commands = so.commands ++ command ∷ [];
@@ -65,12 +66,12 @@ module _ {I : Type 0} (rows : Rows) (script bytes : List ℕ) (limit : Option �
       let nothing : SimText rows (unwrap_or limit 100000) core.history [] [] = refl in
       let lines : lines_of bytes ≡ map spell so.commands = so.read ∙ ap (λ (b : List ℕ). map spell so.commands ++ lines_of b) none ∙ append-nil (map spell so.commands) in (
         record { limit = limit; vars = vars; commands = so.commands },
-        begins (Ok so.commands) (record { spelled = lines; each = so.each }, omega (arith, so.place, so.few)),
+        begins Simulate (Ok so.commands) (record { spelled = lines; each = so.each }, omega (arith, so.place, so.few)),
         subst (λ (cs : List Command). SimText rows (unwrap_or limit 100000) [] cs text) (append-nil so.commands) (subst (SimText rows (unwrap_or limit 100000) [] (so.commands ++ [])) (append-nil text) (so.whole [] [] nothing)),
       )
 
-  pub none_played : (core : Machine I) (text rest : List ℕ) (number : ℕ) (e : ScriptErr) → SoFar rows (unwrap_or limit 100000) bytes first core text rest number → IsBadNext rest number e → SimulatesScript rows script (Err e)
-  none_played core text rest number (Line bad) so (same, none) = begins (Err (Line bad)) (record {
+  pub none_played : (core : Machine I) (text rest : List ℕ) (number : ℕ) (e : ScriptErr) → SoFar rows (unwrap_or limit 100000) bytes first core text rest number → IsBadNext Simulate rest number e → SimulatesScript rows script (Err e)
+  none_played core text rest number (Line bad) so (same, none) = begins Simulate (Err (Line bad)) (record {
     commands = so.commands;
     line = none.line;
     after = none.after;
@@ -80,7 +81,7 @@ module _ {I : Type 0} (rows : Rows) (script bytes : List ℕ) (limit : Option �
     wrong = λ few. none.wrong (omega (arith, same, few));
     few = omega (arith, same, so.few);
   })
-  none_played core text rest number NoMemory so bad = tt
+  none_played core text rest number NoMemory so bad = begins Simulate (Err NoMemory) tt
 
 -- what was found, and what was told of an error
 pub found_some : {A : Type 0} (N : Type 0) (P : A → Type 0) (found : Option A) (a : A) → found ≡ Some a → MatchOption found N P → P a

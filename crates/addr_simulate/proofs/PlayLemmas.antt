@@ -17,7 +17,7 @@ use Rattle.addr_history.specs.declared.answers.Settled.TheVariants.{Kept, Droppe
 use Rattle.addr_history.specs.declared.event.Event.{Event}
 use Rattle.addr_script.specs.Replies.{reply_text}
 use Rattle.addr_script.specs.declared.command.Command.{Command}
-use Rattle.addr_script.specs.declared.command.Command.TheVariants.{Load, Acquire, Release, Status, References, Read, ReadAll, Count, Close, Take, Done, Fail}
+use Rattle.addr_script.specs.declared.command.Command.TheVariants.{Load, Acquire, Release, Status, Wait, References, Read, ReadAll, Count, Close, Take, Done, Fail}
 use Rattle.addr_script.specs.declared.reply.Reply.{Reply}
 use Rattle.addr_script.specs.declared.reply.Reply.TheVariants.{Next, References as ReferencesReply}
 use Rattle.addr_simulate.specs.Reading.{IsToldRead, IsToldReadAll}
@@ -79,6 +79,9 @@ pub release_plays : {I : Type 0} (old new : Machine I) (caller : ℕ) (op : OpId
 release_plays old new caller op reply left told =
     plays old new (Release caller op) reply (release_adds old.history caller op) (grew old new (release_adds old.history caller op) left)
     (record { answers = one (release_reply old.history op); answered = (refl, refl); told = told })
+
+pub wait_plays : {I : Type 0} (old new : Machine I) (op : OpId) (reply : Reply) → new ≡ old → reply ≡ status_answer (status_reply old.rows old.history op) → Plays old (Wait op) reply new
+wait_plays old new op reply left told = plays old new (Wait op) reply [] (same old new left) (record { answers = one (status_reply old.rows old.history op); answered = (refl, refl); told = told })
 
 pub status_plays : {I : Type 0} (old new : Machine I) (op : OpId) (reply : Reply) → new ≡ old → reply ≡ status_answer (status_reply old.rows old.history op) → Plays old (Status op) reply new
 status_plays old new op reply left told = plays old new (Status op) reply [] (same old new left) (record { answers = one (status_reply old.rows old.history op); answered = (refl, refl); told = told })

@@ -30,7 +30,8 @@ use Rattle.addr_history.specs.declared.reading.ReadErr.TheVariants as reading
 use Rattle.addr_core.specs.Machine.{Machine}
 use Rattle.addr_script.specs.Replies.{content_text, items_text, reply_text}
 use Rattle.addr_script.specs.declared.command.Command.{Command}
-use Rattle.addr_script.specs.declared.command.Command.TheVariants.{Load, Acquire, Release, Status, References, Read, ReadAll, Count, Close, Take, Done, Fail}
+use Rattle.addr_script.specs.declared.command.Command.TheVariants.{Load, Acquire, Release, Status, Wait, References, Read, ReadAll, Count, Close, Take, Done, Fail}
+use Rattle.addr_script.specs.declared.command.Grammar.TheVariants.{Simulate}
 use Rattle.addr_script.specs.declared.reply.Reply.{Reply}
 use Rattle.addr_script.specs.Scripts.{ReadsScript, Script}
 use Rattle.addr_script.specs.declared.error.ScriptErr.{ScriptErr}
@@ -114,6 +115,7 @@ calls_of rows (Load caller all mode kind keys) = load caller (ask_of rows all mo
 calls_of rows (Acquire caller op) = acquire caller op ∷ []
 calls_of rows (Release caller op) = release caller op ∷ []
 calls_of rows (Status op) = status op ∷ []
+calls_of rows (Wait op) = status op ∷ []
 calls_of rows (References op) = references op ∷ []
 calls_of rows (Read op i) = read op i ∷ []
 calls_of rows (ReadAll op i) = read_all op i ∷ []
@@ -129,6 +131,7 @@ reply_of rows (Load caller all mode kind keys) answers = load_answer keys answer
 reply_of rows (Acquire caller op) answers = acquire_answer answers.first
 reply_of rows (Release caller op) answers = release_answer answers.first
 reply_of rows (Status op) answers = status_answer answers.first
+reply_of rows (Wait op) answers = status_answer answers.first
 reply_of rows (References op) answers = ReferencesReply answers.first
 reply_of rows (Read op i) answers = read_answer answers.first
 reply_of rows (ReadAll op i) answers = read_all_answer answers.first
@@ -165,5 +168,5 @@ SimText rows limit h (command ∷ commands) text = (reply : Reply) × (after : L
 
 -- what bytes are simulated as over rows: the replies to the script that they are, or the first bad line
 abbrev pub SimulatesScript : Rows → List ℕ → Result (List ℕ) ScriptErr → Type 0
-SimulatesScript rows bytes (Ok text) = (s : Script) × ReadsScript bytes (Ok s) × SimText rows (limit_of s) [] s.commands text
-SimulatesScript rows bytes (Err e) = ReadsScript bytes (Err e)
+SimulatesScript rows bytes (Ok text) = (s : Script) × ReadsScript Simulate bytes (Ok s) × SimText rows (limit_of s) [] s.commands text
+SimulatesScript rows bytes (Err e) = ReadsScript Simulate bytes (Err e)

@@ -9,4 +9,4 @@ mod sim_image;
 mod simulator;
 
 pub use sim_image::SimImage;
-pub use simulator::simulate;
+pub use simulator::{ask_of, named_key, read_all_reply, read_reply, simulate};

@@ -15,7 +15,9 @@ use crate::sim_image::SimImage;
 use addr_base::{BundleNo, Cause, Items, KeyNo, NoMemory, OpId, Text, token};
 use addr_core::{AcquireErr, Ask, Core, Item2, LoadErr, OpStatus, ReadErr};
 use addr_locate::{Kind, Locator, Merge};
-use addr_script::{Command, Reply, ScriptErr, content, items_text, next_command, read_head};
+use addr_script::{
+    Command, Grammar, Reply, ScriptErr, content, items_text, next_command, read_head,
+};
 use std::alloc::Global;
 use std::fmt::Write;
 
@@ -32,7 +34,7 @@ pub fn simulate(alloc: Global, locator: Locator, script: &[u8]) -> Result<Text, 
     let mut text = String::new(alloc);
     let mut rest = head.rest;
     let mut number = head.next;
-    while let Some((command, after)) = next_command(alloc, rest, number)? {
+    while let Some((command, after)) = next_command(alloc, Grammar::Simulate, rest, number)? {
         play_line(alloc, &mut core, &command, &mut text)?;
         rest = after;
         number += 1;
@@ -86,6 +88,7 @@ fn play(alloc: Global, core: &mut Core<SimImage>, command: &Command) -> Result<R
         Command::Acquire { caller, op } => Ok(acquire(core, *caller, *op)),
         Command::Release { caller, op } => Ok(release(core, *caller, *op)),
         Command::Status(op) => Ok(status(core, *op)),
+        Command::Wait(op) => Ok(status(core, *op)),
         Command::References(op) => Ok(Reply::References(core.references(*op))),
         Command::Read { op, i } => {
             let reply = read(alloc, core, *op, *i)?;
@@ -149,7 +152,7 @@ fn read(alloc: Global, core: &Core<SimImage>, op: OpId, i: u32) -> Result<Reply,
     ensures { IfOk result (IsToldRead core.now.rows core.now.history op i) }
 {
     let _journal = core.journal();
-    let reply = told(alloc, core.read(op, i))?;
+    let reply = read_reply(alloc, core.read(op, i))?;
     Ok(reply)
 }
 
@@ -158,12 +161,12 @@ fn read_all(alloc: Global, core: &Core<SimImage>, op: OpId, i: u32) -> Result<Re
     ensures { IfOk result (IsToldReadAll core.now.rows core.now.history op i) }
 {
     let _journal = core.journal();
-    let reply = told_all(alloc, core.read_all(op, i))?;
+    let reply = read_all_reply(alloc, core.read_all(op, i))?;
     Ok(reply)
 }
 
 /// What a read is told; want of memory ends the run.
-fn told(alloc: Global, answer: Result<Items<u8>, ReadErr>) -> Result<Reply, NoMemory>
+pub fn read_reply(alloc: Global, answer: Result<Items<u8>, ReadErr>) -> Result<Reply, NoMemory>
     ensures told { IfOk result (λ reply. reply ≡ read_answer answer) }
     ensures given { OnOk result (answer ≡ Err ReadNoMemory → ⊥) }
 {
@@ -173,7 +176,11 @@ fn told(alloc: Global, answer: Result<Items<u8>, ReadErr>) -> Result<Reply, NoMe
     }
 }
 
-fn told_all(alloc: Global, answer: Result<Items<Item2>, ReadErr>) -> Result<Reply, NoMemory>
+/// What a read of all that an asset leads to is told; want of memory ends the run.
+pub fn read_all_reply(
+    alloc: Global,
+    answer: Result<Items<Item2>, ReadErr>,
+) -> Result<Reply, NoMemory>
     ensures told { IfOk result (λ reply. reply ≡ read_all_answer answer) }
     ensures given { OnOk result (answer ≡ Err ReadNoMemory → ⊥) }
 {
@@ -284,7 +291,7 @@ fn load(
 }
 
 /// The token of the key at the place, where there is one.
-fn named_key(
+pub fn named_key(
     alloc: Global,
     keys: &Items<Text>,
     place: Option<u32>,
@@ -310,7 +317,7 @@ fn key_at(keys: &Items<Text>, place: u32) -> &str
 }
 
 /// What a load asks the machine for: its keys and its type by number.
-fn ask_of(
+pub fn ask_of(
     alloc: Global,
     locator: &Locator,
     all: bool,

@@ -1,7 +1,7 @@
 use Rattle.std.proofs.Common.{◌∙◌, ap, refl}
 use Rattle.addr_locate.specs.Rows.{Rows}
 use Rattle.addr_simulate.specs.SimText.{ask_of}
-use Rattle.addr_simulate.proofs.PlayLemmas.{load_plays, acquire_plays, release_plays, status_plays, references_plays, read_plays, read_all_plays, count_plays, close_plays, take_plays, fail_plays}
+use Rattle.addr_simulate.proofs.PlayLemmas.{load_plays, acquire_plays, release_plays, status_plays, wait_plays, references_plays, read_plays, read_all_plays, count_plays, close_plays, take_plays, fail_plays}
 use Rattle.addr_simulate.proofs.simulator.play.Goals as goal
 
 pub returns-in_ok-reply-in-Load : goal.returns-in_ok-reply-in-Load
@@ -38,3 +38,6 @@ returns-in-Take c = rw c.in-Take.is (take_plays c.args.core.now c.take.new.self 
 
 pub returns-in-Fail : goal.returns-in-Fail
 returns-in-Fail c = rw c.in-Fail.is (fail_plays c.args.core.now c.fail.new.core c.in-Fail.worker c.in-Fail.b c.in-Fail.cause c.fail.result c.fail.ensures.machine c.fail.ensures.reply)
+
+pub returns-in-Wait : goal.returns-in-Wait
+returns-in-Wait c = rw c.in-Wait.is (wait_plays c.args.core.now c.args.core.now c.in-Wait.op c.status-in-Wait.result refl c.status-in-Wait.ensures)

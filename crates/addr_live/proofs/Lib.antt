@@ -1,0 +1,11 @@
+pub mod Ends
+pub mod Finals
+pub mod Handing
+pub mod Lines
+pub mod Lives
+pub mod PlayLemmas
+pub mod PrintLemmas
+pub mod ReadLemmas
+pub mod RunLemmas
+pub mod Scripts
+pub mod Wholes

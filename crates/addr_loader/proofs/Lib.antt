@@ -1,0 +1,5 @@
+pub mod Fetchers
+pub mod Gaining
+pub mod Teaming
+pub mod Turns
+pub mod Working

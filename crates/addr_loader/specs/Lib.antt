@@ -1,0 +1,10 @@
+pub mod Chain
+pub mod Gains
+pub mod Judged
+pub mod Meets
+pub mod Sessions
+pub mod Taking
+pub mod Teams
+pub mod Turn
+pub mod Waits
+pub mod Works
