@@ -1,7 +1,7 @@
 //! What Huwendrith promises, on one page: each public call is a sentence, its clause says it exactly, and its body cites the layer
 //! that proves it. Nothing runs.
 //!
-//! Start: `src/machine.rt` (what leaves memory and when), `src/releases.rt` (what players get), `src/projects.rt`, `src/formats.rt`.
+//! Start: `src/machine.rt` (what leaves memory and when), `src/threads.rt` (many threads), `src/releases.rt` (what players get), `src/projects.rt`, `src/formats.rt`.
 //! Left out: what single calls answer, which stands at each call (`docs/PROVED.md`).
 #![tactic(auto)]
 
@@ -9,6 +9,7 @@ mod formats;
 mod machine;
 mod projects;
 mod releases;
+mod threads;
 
 pub use formats::{
     asset_tables_are_read_back, bundle_files_are_read_back, catalogues_have_one_meaning,
@@ -27,3 +28,4 @@ pub use releases::{
     files_have_one_answer, releases_are_one, updates_show_the_project,
     updates_switch_at_the_catalogue,
 };
+pub use threads::threads_share_one_history;
