@@ -1,7 +1,8 @@
 //! What Huwendrith promises, on one page: each public call is a sentence, its clause says it exactly, and its body cites the layer
 //! that proves it. Nothing runs.
 //!
-//! Start: `src/machine.rt` (what leaves memory and when), `src/threads.rt` (many threads), `src/releases.rt` (what players get), `src/projects.rt`, `src/formats.rt`.
+//! Start: `src/machine.rt` (what leaves memory and when), `src/threads.rt` (many threads), `src/releases.rt` (what players get),
+//! `src/projects.rt`, `src/formats.rt`.
 //! Left out: what single calls answer, which stands at each call (`docs/PROVED.md`).
 #![tactic(auto)]
 
